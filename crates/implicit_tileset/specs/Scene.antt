@@ -1,0 +1,26 @@
+-- What a list of files holds, and the text of a request line over it.
+use Rattle.std.specs.Prelude.{ℕ, List, Option, codes, Result}
+use Rattle.implicit_tiling.specs.Files.{Files, file}
+use Rattle.implicit_tiling.specs.Template.{filled}
+use Rattle.implicit_tiling.specs.Checks.{need}
+use Rattle.implicit_tiling.specs.Tile.{Tile}
+use Rattle.implicit_tiling.specs.Scene.{Layout, Scene}
+use Rattle.implicit_tiling.specs.Request.{Line, plan_of_line}
+use Rattle.implicit_tiling.specs.Text.{text_of}
+use Rattle.implicit_tileset.specs.Tileset.{layout_of}
+use Rattle.implicit_tileset.specs.Subtree.{outcome_of}
+
+-- the name of a subtree root's file
+abbrev pub subtree_name : Layout → Tile → List ℕ
+subtree_name layout r = filled layout.scheme layout.subtree r
+
+abbrev pub scene_of : Files → Layout → Scene
+scene_of files layout = record { layout = layout; outcome = λ r. outcome_of layout (file (subtree_name layout r) files) }
+
+-- the layout of the files, or the first fault of `tileset.json`
+abbrev pub layout_in : Files → Result Layout ℕ
+layout_in files = need 1 (file (codes "tileset.json") files) layout_of
+
+-- the text of a line over the files of a layout
+abbrev pub line_text : Files → Layout → Option Line → List ℕ
+line_text files layout line = text_of (scene_of files layout) (plan_of_line layout.scheme layout.levels line)

@@ -1,0 +1,77 @@
+-- The layout that the bytes of `tileset.json` state, or the number of their first fault of 3 to 12.
+use Rattle.std.specs.Prelude.{ℕ, ◌&&◌, ◌==◌, nat_lt, nat_le, not, Bool, true, false, List, [], ◌∷◌, length, codes, Option, Some, None, option_and_then, option_map, Result, Ok, if◌then◌else◌}
+use Rattle.std.specs.List.{list_all}
+use Rattle.std.specs.Str.{bytes_eq}
+use Rattle.serde_json.specs.Data.{Data}
+use Rattle.serde_json.specs.Find.{get, as_array}
+use Rattle.implicit_tiling.specs.declared.Scheme.{Scheme}
+use Rattle.implicit_tiling.specs.declared.Scheme.TheVariants.{Quad, Oct}
+use Rattle.implicit_tiling.specs.Checks.{need, refuse}
+use Rattle.implicit_tiling.specs.Scene.{Layout}
+use Rattle.implicit_tileset.specs.Json.{json_of, object_at, number_at, text_at, has_member, list_of}
+
+abbrev pub scheme_named : List ℕ → Option Scheme
+scheme_named text = if bytes_eq text (codes "QUADTREE") then Some Quad else (if bytes_eq text (codes "OCTREE") then Some Oct else None)
+
+-- the most levels in all, and in a subtree
+abbrev pub most_levels : Scheme → ℕ
+most_levels Quad = 26
+most_levels Oct = 18
+
+abbrev pub most_subtree_levels : Scheme → ℕ
+most_subtree_levels Quad = 10
+most_subtree_levels Oct = 7
+
+-- a whole number from 1 to this
+abbrev pub from_one_to : ℕ → Option ℕ → Option ℕ
+from_one_to most n = option_and_then (λ k. if nat_le 1 k && nat_le k most then Some k else None) n
+
+-- none of the bytes is a control character
+abbrev pub is_printable : List ℕ → Bool
+is_printable text = list_all (λ c. nat_le 32 c && not (c == 127)) text
+
+-- at most 1,024 bytes, none of them a control character
+abbrev pub is_template : List ℕ → Bool
+is_template text = nat_le (length text) 1024 && is_printable text
+
+-- the template that an object has as its `uri`
+abbrev pub template_of : Data → Option (List ℕ)
+template_of value = option_and_then (λ text. if is_template text then Some text else None) (text_at (codes "uri") value)
+
+abbrev pub templates_of : List Data → Option (List (List ℕ))
+templates_of [] = Some []
+templates_of (value ∷ values) = option_and_then (λ t. option_map (λ ts. t ∷ ts) (templates_of values)) (template_of value)
+
+-- the content templates: that of `content`, or those of `contents`, or none
+abbrev pub contents_from : Option Data → Option Data → Option (List (List ℕ))
+contents_from (Some content) contents = option_map (λ t. t ∷ []) (template_of content)
+contents_from None (Some contents) = option_and_then (λ items. templates_of (list_of items)) (as_array contents)
+contents_from None None = Some []
+
+abbrev pub contents_of : Data → Option (List (List ℕ))
+contents_of tile = contents_from (get (codes "content") tile) (get (codes "contents") tile)
+
+-- the layout that a value states, or its first fault of 4 to 12
+abbrev pub layout_of_value : Data → Result Layout ℕ
+layout_of_value value =
+    need 4 (object_at (codes "root") value) (λ tile.
+    need 5 (object_at (codes "implicitTiling") tile) (λ implicit.
+    need 6 (option_and_then scheme_named (text_at (codes "subdivisionScheme") implicit)) (λ scheme.
+    need 7 (from_one_to (most_subtree_levels scheme) (number_at (codes "subtreeLevels") implicit)) (λ subtree_levels.
+    need 8 (from_one_to (most_levels scheme) (number_at (codes "availableLevels") implicit)) (λ levels.
+    need 9 (option_and_then template_of (get (codes "subtrees") implicit)) (λ subtree.
+    refuse 10 (has_member (codes "content") tile && has_member (codes "contents") tile)
+    (need 11 (contents_of tile) (λ contents.
+    refuse 12 (nat_lt 8 (length contents))
+    (Ok (record { scheme = scheme; subtree_levels = subtree_levels; levels = levels; subtree = subtree; contents = contents }))))))))))
+
+abbrev pub layout_of : List ℕ → Result Layout ℕ
+layout_of bytes = need 3 (json_of bytes) layout_of_value
+
+-- a quadtree of at most 8 levels in one subtree, with at most one content
+abbrev pub is_quad : Scheme → Bool
+is_quad Quad = true
+is_quad Oct = false
+
+abbrev pub is_plain : Layout → Bool
+is_plain layout = is_quad layout.scheme && nat_le layout.levels 8 && nat_le layout.levels layout.subtree_levels && nat_le (length layout.contents) 1

@@ -1,0 +1,11 @@
+pub mod Tile
+pub mod Checks
+pub mod Region
+pub mod Files
+pub mod Template
+pub mod Scene
+pub mod Availability
+pub mod Answer
+pub mod Code
+pub mod Request
+pub mod Text

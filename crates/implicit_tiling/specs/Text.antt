@@ -1,0 +1,45 @@
+-- The text of an answer: its lines, with TAB between the parts and LF at the end (this project's own).
+use Rattle.std.specs.Prelude.{ℕ, ◌+◌, ◌%◌, ◌/◌, ◌^◌, ◌==◌, List, [], ◌∷◌, ◌++◌, length, codes, Result, Ok, Err, if◌then◌else◌}
+use Rattle.std.specs.List.{flat_map, join_with_byte}
+use Rattle.std.specs.Fmt.{decimal}
+use Rattle.implicit_tiling.specs.declared.Scheme.{Scheme}
+use Rattle.implicit_tiling.specs.declared.Scheme.TheVariants.{Quad, Oct}
+use Rattle.implicit_tiling.specs.Tile.{Tile}
+use Rattle.implicit_tiling.specs.Region.{Plan}
+use Rattle.implicit_tiling.specs.Template.{filled}
+use Rattle.implicit_tiling.specs.Scene.{Scene}
+use Rattle.implicit_tiling.specs.Availability.{mask}
+use Rattle.implicit_tiling.specs.Answer.{End, complete, too_many, fault, Answer, answer}
+
+abbrev pub line : List (List ℕ) → List ℕ
+line parts = join_with_byte 9 parts ++ 10 ∷ []
+
+-- level, x, y and in octrees z
+abbrev pub coordinates : Scheme → Tile → List (List ℕ)
+coordinates Quad t = decimal t.level ∷ decimal t.x ∷ decimal t.y ∷ []
+coordinates Oct t = decimal t.level ∷ decimal t.x ∷ decimal t.y ∷ decimal t.z ∷ []
+
+-- the templates whose bit of the mask is 1, filled, in order
+abbrev pub contents_from : Scheme → Tile → ℕ → ℕ → List (List ℕ) → List (List ℕ)
+contents_from scheme t m c [] = []
+contents_from scheme t m c (template ∷ templates) =
+    if m / 2 ^ c % 2 == 1 then filled scheme template t ∷ contents_from scheme t m (c + 1) templates else contents_from scheme t m (c + 1) templates
+
+abbrev pub tile_line : Scene → Tile → List ℕ
+tile_line s t = line (coordinates s.layout.scheme t ++ contents_from s.layout.scheme t (mask s t) 0 s.layout.contents)
+
+abbrev pub end_line : Scheme → ℕ → End → List ℕ
+end_line scheme n complete = line (codes "end" ∷ codes "complete" ∷ decimal n ∷ [])
+end_line scheme n too_many = line (codes "end" ∷ codes "too-many" ∷ decimal n ∷ [])
+end_line scheme n (fault r k) = line (codes "end" ∷ codes "fault" ∷ decimal n ∷ decimal k ∷ coordinates scheme r)
+
+abbrev pub answer_text : Scene → Answer → List ℕ
+answer_text s a = flat_map (tile_line s) a.tiles ++ end_line s.layout.scheme (length a.tiles) a.end
+
+abbrev pub refused_text : ℕ → List ℕ
+refused_text k = line (codes "refused" ∷ decimal k ∷ [])
+
+-- the text of a line that was read to a plan, or refused
+abbrev pub text_of : Scene → Result Plan ℕ → List ℕ
+text_of s (Ok plan) = answer_text s (answer s plan.region)
+text_of s (Err k) = refused_text k

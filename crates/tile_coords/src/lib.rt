@@ -1,0 +1,17 @@
+//! Tiles, regions, plans and the ends of walks: the small values that every layer speaks of.
+//! Each is seen by contracts as the plain record of numbers that the definitions of `implicit_tiling` speak of.
+#![tactic(auto)]
+
+mod plan;
+mod region;
+mod tile;
+mod walk_end;
+
+pub use implicit_tiling::Scheme;
+pub use plan::Plan;
+pub use region::{Region, RegionFault};
+pub use tile::Tile;
+pub use walk_end::{WalkEnd, Word};
+
+#[cfg(test)]
+mod tests;
