@@ -1,0 +1,4 @@
+pub mod Index
+pub mod TileAt
+pub mod Ancestors
+pub mod Nodes
