@@ -2,3 +2,4 @@ pub mod Index
 pub mod TileAt
 pub mod Ancestors
 pub mod Nodes
+pub mod Order

@@ -4,3 +4,4 @@
 
 pub mod index_laws;
 pub mod node_laws;
+pub mod order_laws;
