@@ -8,6 +8,7 @@ pub mod Scene
 pub mod Availability
 pub mod Subtree
 pub mod Answer
+pub mod Checked
 pub mod Code
 pub mod Request
 pub mod Text

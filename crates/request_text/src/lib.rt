@@ -4,5 +4,6 @@
 #![tactic(auto)]
 
 mod line;
+mod text;
 
 pub use line::{Refusal, is_coordinates, is_number, parse_line};
