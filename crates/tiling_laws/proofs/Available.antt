@@ -1,16 +1,16 @@
 -- Available and reached, in the words of the standard.
-use Rattle.std.proofs.Common.{◌≡◌, ℕ, zero, suc, ◌+◌, ◌-◌, ◌%◌, ◌<◌, ◌≤◌, Bool, true, false, None, refl, sym, ap, subst, ◌∙◌, arith, inl, inr, ◌⊎◌}
+use Rattle.std.proofs.Common.{◌≡◌, ℕ, zero, suc, ◌%◌, ◌<◌, ◌≤◌, Bool, true, false, refl, sym, ap, subst, ◌∙◌, arith, inl, inr, ◌⊎◌}
 use Rattle.std.specs.Prelude.{◌&&◌, ◌||◌, ◌==◌, ◌↔◌, nat_lt, not}
 use Rattle.std.proofs.Math.Nat.{zero-mod}
-use Rattle.std.proofs.lemmas.Bool.{and_parts, and_from, or_cases, or_left, or_right, eq-eqb, eqb-true, ltb-true, lt-ltb, cases_Bool}
+use Rattle.std.proofs.lemmas.Bool.{and_parts, and_from, or_cases, or_left, or_right, eq-eqb, eqb-true, ltb-true, lt-ltb}
 use Rattle.implicit_tiling.specs.Tile.{Tile, root, ancestor, parent}
-use Rattle.implicit_tiling.specs.Scene.{Layout, Scene, fault_of}
+use Rattle.implicit_tiling.specs.Scene.{Layout, Scene}
 use Rattle.implicit_tiling.specs.Availability.{local_level, subtree_root, is_subtree_root, tile_bit, child_bit, available_at, is_available, is_reached}
 use Rattle.tiling_laws.specs.Available.{IsThere, IsNamed, HasBits}
 use Rattle.tiling_laws.proofs.Subtrees.{ancestor_none, ancestor_more, root_of_root, root_of_inner, bit_low, bit_good, child_low, asked_of_root, asked_from}
 
 -- the parts of a test for a subtree root
-reached_from : (s : Scene) (r : Tile) → is_subtree_root s.layout r ≡ true → nat_lt r.level s.layout.levels ≡ true
+pub reached_from : (s : Scene) (r : Tile) → is_subtree_root s.layout r ≡ true → nat_lt r.level s.layout.levels ≡ true
     → ((r.level == 0) || (is_available s (parent r) && child_bit s r)) ≡ true → is_reached s r ≡ true
 reached_from s r is low above =
     and_from (is_subtree_root s.layout r && nat_lt r.level s.layout.levels) ((r.level == 0) || (is_available s (parent r) && child_bit s r))
@@ -46,26 +46,33 @@ available_from s n t h =
 pub at_own_level : (s : Scene) (n : ℕ) (t : Tile) → t.level ≡ n → available_at s n t ≡ is_available s t
 at_own_level s n t level = ap (λ l. available_at s l t) (sym level)
 
-top_is_root : (layout : Layout) (t : Tile) → t.level ≡ 0 → is_subtree_root layout t ≡ true
+pub top_is_root : (layout : Layout) (t : Tile) → t.level ≡ 0 → is_subtree_root layout t ≡ true
 top_is_root layout t level = eq-eqb (local_level layout t) 0 (ap (λ l. l % layout.subtree_levels) level ∙ zero-mod layout.subtree_levels)
 
--- the subtree of an available tile is reached
-own_root_reached : (s : Scene) (n : ℕ) (t : Tile) (is : Bool) → is_subtree_root s.layout t ≡ is → t.level ≡ suc n → IsBelow s n t
-    → is_reached s (subtree_root s.layout (parent t)) ≡ true → is_reached s (subtree_root s.layout t) ≡ true
-own_root_reached s n t true is level h up =
-    let above : is_available s (parent t) ≡ true = sym (at_own_level s n (parent t) (omega arith)) ∙ h.above in
+-- the subtree of a tile is reached, where its parent is available and a child bit that is asked for is 1
+own_root : (s : Scene) (n : ℕ) (t : Tile) (is : Bool) → is_subtree_root s.layout t ≡ is → t.level ≡ suc n → available_at s n (parent t) ≡ true
+    → (not (is_subtree_root s.layout t) || child_bit s t) ≡ true → is_reached s (subtree_root s.layout (parent t)) ≡ true → is_reached s (subtree_root s.layout t) ≡ true
+own_root s n t true is level above named up =
+    let there : is_available s (parent t) ≡ true = sym (at_own_level s n (parent t) (omega arith)) ∙ above in
+    let bit = asked_of_root (is_subtree_root s.layout t) (child_bit s t) named is in
     ap (is_reached s) (root_of_root s.layout t is)
-    ∙ reached_from s t is (bit_low s t h.bit)
-    (or_right (t.level == 0) (is_available s (parent t) && child_bit s t) (and_from (is_available s (parent t)) (child_bit s t) above (asked_of_root (is_subtree_root s.layout t) (child_bit s t) h.named is)))
-own_root_reached s n t false is level h up = ap (is_reached s) (sym (root_of_inner s.layout t (omega arith) is)) ∙ up
+    ∙ reached_from s t is (child_low s t bit)
+    (or_right (t.level == 0) (is_available s (parent t) && child_bit s t) (and_from (is_available s (parent t)) (child_bit s t) there bit))
+own_root s n t false is level above named up = ap (is_reached s) (sym (root_of_inner s.layout t (omega arith) is)) ∙ up
 
+-- the subtree of an available tile is reached
 pub available_reached : (s : Scene) (n : ℕ) (t : Tile) → t.level ≡ n → available_at s n t ≡ true → is_reached s (subtree_root s.layout t) ≡ true
 available_reached s zero t level h =
     ap (is_reached s) (root_of_root s.layout t (top_is_root s.layout t level))
     ∙ reached_from s t (top_is_root s.layout t level) (bit_low s t h) (or_left (t.level == 0) (is_available s (parent t) && child_bit s t) (eq-eqb t.level 0 level))
 available_reached s (suc n) t level h =
     let parts = available_says s n t h in
-    own_root_reached s n t (is_subtree_root s.layout t) refl level parts (available_reached s n (parent t) (omega arith) parts.above)
+    own_root s n t (is_subtree_root s.layout t) refl level parts.above parts.named (available_reached s n (parent t) (omega arith) parts.above)
+
+pub own_root_reached : (s : Scene) (n : ℕ) (t : Tile) → t.level ≡ suc n → available_at s n (parent t) ≡ true
+    → (not (is_subtree_root s.layout t) || child_bit s t) ≡ true → is_reached s (subtree_root s.layout t) ≡ true
+own_root_reached s n t level above named =
+    own_root s n t (is_subtree_root s.layout t) refl level above named (available_reached s n (parent t) (omega arith) above)
 
 -- an available tile is there
 there_at : (s : Scene) (n : ℕ) (t : Tile) → t.level ≡ n → available_at s n t ≡ true → IsThere s t

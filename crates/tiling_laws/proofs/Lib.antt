@@ -5,3 +5,4 @@ pub mod Nodes
 pub mod Order
 pub mod Subtrees
 pub mod Available
+pub mod Walk

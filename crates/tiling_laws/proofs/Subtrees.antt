@@ -1,9 +1,9 @@
 -- The root of a tile's subtree, and the fault of a file that has a bit which is 1.
-use Rattle.std.proofs.Common.{◌≡◌, ℕ, zero, suc, ◌+◌, ◌-◌, ◌*◌, ◌/◌, ◌%◌, ◌^◌, ◌<◌, ◌≤◌, Bool, true, false, None, refl, sym, ap, ◌∙◌, arith, inl, inr}
-use Rattle.std.specs.Prelude.{◌&&◌, ◌||◌, ◌==◌, nat_lt, not}
+use Rattle.std.proofs.Common.{◌≡◌, ℕ, zero, suc, ◌+◌, ◌-◌, ◌*◌, ◌/◌, ◌%◌, ◌<◌, Bool, true, false, None, refl, sym, ap, ◌∙◌, arith, inl, inr}
+use Rattle.std.specs.Prelude.{◌||◌, nat_lt, not}
 use Rattle.std.proofs.Math.Nat.{div-add-mod, mod-zero}
 use Rattle.std.proofs.lemmas.Nat.{mod_below, mod-mul-add}
-use Rattle.std.proofs.lemmas.Bool.{false≢true, eqb-true, eqb-false, eq-eqb, cases_lt, and_parts, ltb-true}
+use Rattle.std.proofs.lemmas.Bool.{false≢true, eqb-true, eqb-false, cases_lt, and_parts}
 use Rattle.implicit_tiling.specs.Tile.{Tile, ancestor, parent}
 use Rattle.implicit_tiling.specs.Scene.{Layout, Scene, Outcome, good, bad, tile_bit_of, child_bit_of, fault_of}
 use Rattle.implicit_tiling.specs.Availability.{local_level, subtree_root, is_subtree_root, place, tile_bit, child_bit}
