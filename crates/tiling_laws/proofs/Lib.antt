@@ -3,3 +3,6 @@ pub mod TileAt
 pub mod Ancestors
 pub mod Nodes
 pub mod Order
+pub mod Subtrees
+pub mod Available
+pub mod Walk

@@ -2,6 +2,7 @@
 //! of availability. Each law is the contract of a function that does nothing; `proofs/` has it as a lemma to cite.
 #![tactic(auto)]
 
+pub mod availability_laws;
 pub mod index_laws;
 pub mod node_laws;
 pub mod order_laws;
