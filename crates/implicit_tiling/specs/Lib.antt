@@ -10,5 +10,7 @@ pub mod Subtree
 pub mod Answer
 pub mod Checked
 pub mod Code
+pub mod Nodes
+pub mod Steps
 pub mod Request
 pub mod Text
