@@ -6,3 +6,4 @@ pub mod availability_laws;
 pub mod index_laws;
 pub mod node_laws;
 pub mod order_laws;
+pub mod place_laws;
