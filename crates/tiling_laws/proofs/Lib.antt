@@ -6,3 +6,4 @@ pub mod Order
 pub mod Subtrees
 pub mod Available
 pub mod Walk
+pub mod Places
