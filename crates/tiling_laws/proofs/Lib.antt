@@ -1,0 +1,5 @@
+pub mod Index
+pub mod TileAt
+pub mod Ancestors
+pub mod Nodes
+pub mod Order
