@@ -1,0 +1,4 @@
+pub mod Index
+pub mod Nodes
+pub mod Order
+pub mod Available
