@@ -1,37 +1,21 @@
--- What the bytes of a subtree file hold (OGC 22-025r4, subtree binary format and subtree JSON).
--- So far a file is known where its availabilities are constants.
+-- Subtree files whose availabilities are constants: so far the outcome of a file is known of these alone (OGC 22-025r4,
+-- subtree JSON format: constant availability).
 use Rattle.std.specs.Prelude.{ℕ, ◌+◌, ◌&&◌, ◌||◌, ◌==◌, nat_lt, not, Bool, true, false, List, [], ◌∷◌, length, take, drop, codes, Option, Some, None, option_and_then, Result, Ok, Err, if◌then◌else◌}
 use Rattle.std.specs.Str.{bytes_eq}
-use Rattle.std.specs.List.{slice_range}
-use Rattle.std.specs.Int.{w32, w64, from_le_bytes}
 use Rattle.serde_json.specs.Data.{Data}
 use Rattle.serde_json.specs.Find.{get, as_array}
 use Rattle.implicit_tiling.specs.Checks.{need, refuse}
+use Rattle.implicit_tiling.specs.Tile.{Tile}
 use Rattle.implicit_tiling.specs.Scene.{Layout, Bits, Outcome, good, bad}
+use Rattle.implicit_tileset.specs.SubtreeFile.{Parts, parts_of, and_then}
 use Rattle.implicit_tileset.specs.Json.{json_of, object_of, number_at, has_member, list_of}
 
--- the numbers of the header, which are little endian
-abbrev pub version : List ℕ → ℕ
-version bytes = from_le_bytes w32 (drop 4 bytes)
-
-abbrev pub json_length : List ℕ → ℕ
-json_length bytes = from_le_bytes w64 (drop 8 bytes)
-
-abbrev pub binary_length : List ℕ → ℕ
-binary_length bytes = from_le_bytes w64 (drop 16 bytes)
-
-abbrev pub json_part : List ℕ → List ℕ
-json_part bytes = slice_range bytes 24 (24 + json_length bytes)
-
 -- the JSON object of a file, or the number of the first of the faults 3 to 8
+abbrev pub object_from : Parts → Result Data ℕ
+object_from parts = need 7 (json_of parts.json) (λ value. need 8 (object_of value) Ok)
+
 abbrev pub object_in : List ℕ → Result Data ℕ
-object_in bytes =
-    refuse 3 (nat_lt (length bytes) 24)
-    (refuse 4 (not (bytes_eq (take 4 bytes) (codes "subt")))
-    (refuse 5 (not (version bytes == 1))
-    (refuse 6 (nat_lt (length bytes) (24 + json_length bytes + binary_length bytes))
-    (need 7 (json_of (json_part bytes)) (λ value.
-    need 8 (object_of value) Ok)))))
+object_in bytes = and_then (parts_of bytes) object_from
 
 -- the bit of an availability object that has `constant` alone
 abbrev pub bit_named : ℕ → Option Bool
@@ -85,5 +69,5 @@ abbrev pub outcome_from : Option Constants → Outcome
 outcome_from (Some constants) = good (bits_of constants)
 outcome_from None = bad 0
 
-abbrev pub outcome_of : Layout → Option (List ℕ) → Outcome
-outcome_of layout bytes = outcome_from (option_and_then (constants_of layout) bytes)
+abbrev pub outcome_of : Layout → Tile → Option (List ℕ) → Outcome
+outcome_of layout root bytes = outcome_from (option_and_then (constants_of layout) bytes)
