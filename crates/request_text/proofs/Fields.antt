@@ -2,6 +2,11 @@
 use Rattle.std.proofs.Common.{◌≡◌, ℕ, List, [], ◌∷◌, ◌++◌, sym, ap, ◌∙◌, append-nil, append_assoc}
 use Rattle.std.specs.List.{join_with_byte, flat_map}
 use Rattle.std.proofs.lemmas.Grind.{flat_map-append}
+use Rattle.std.specs.Fmt.{decimal}
+use Rattle.implicit_tiling.specs.declared.Scheme.{Scheme}
+use Rattle.implicit_tiling.specs.declared.Scheme.TheVariants.{Quad, Oct}
+use Rattle.implicit_tiling.specs.Tile.{Tile}
+use Rattle.implicit_tiling.specs.Text.{coordinates}
 use Rattle.request_text.specs.Fields.{joined, after_tab}
 
 -- the first field, and each other behind its TAB
@@ -15,3 +20,8 @@ joined_append field fields more =
     ∙ ap (λ w. field ++ w) (flat_map-append after_tab fields more)
     ∙ sym (append_assoc field (flat_map after_tab fields) (flat_map after_tab more))
     ∙ ap (λ w. w ++ flat_map after_tab more) (sym (joined_tabs field fields))
+
+-- the fields of a tile's place, and more
+pub place_and_more : (scheme : Scheme) (t : Tile) (more : List (List ℕ)) → joined (coordinates scheme t ++ more) ≡ joined (coordinates scheme t) ++ flat_map after_tab more
+place_and_more Quad t more = joined_append (decimal t.level) (decimal t.x ∷ decimal t.y ∷ []) more
+place_and_more Oct t more = joined_append (decimal t.level) (decimal t.x ∷ decimal t.y ∷ decimal t.z ∷ []) more
