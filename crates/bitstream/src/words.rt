@@ -78,8 +78,7 @@ fn first_one(bytes: &[u8]) -> Option<u64>
     Some(8 * skipped as u64 + place)
 }
 
-// Bytes in front that are 0, in whole blocks of 32: four words share one branch, which halves the time where ones are
-// sparse.
+// Bytes in front that are 0, in whole blocks of 32, so that four words share one branch.
 fn zeros_in_front(bytes: &[u8]) -> usize
     ensures within { result ≤ length bytes.now }
     ensures zeros { HasNoOne (bit_of_bytes bytes.now) 0 (8 * result) }
