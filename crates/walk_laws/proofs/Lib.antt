@@ -1,3 +1,5 @@
 pub mod Lists
 pub mod Runs
 pub mod Segments
+pub mod Plain
+pub mod Decoded

@@ -52,6 +52,10 @@ pub filter-filter : {X : Type 0} (p q : X → Bool) (xs : List X) → filter q (
 filter-filter p q [] = refl
 filter-filter p q (x ∷ xs) = filter_cond q (p x) x (filter p xs) ∙ ap (λ w. cond (p x && q x) (x ∷ w) w) (filter-filter p q xs)
 
+pub map-map : {X Y Z : Type 0} (g : Y → Z) (f : X → Y) (xs : List X) → map g (map f xs) ≡ map (λ x. g (f x)) xs
+map-map g f [] = refl
+map-map g f (x ∷ xs) = ap (λ w. g (f x) ∷ w) (map-map g f xs)
+
 -- lists of lists
 pub map-flat_map : {X Y Z : Type 0} (g : Y → Z) (f : X → List Y) (xs : List X) → map g (flat_map f xs) ≡ flat_map (λ x. map g (f x)) xs
 map-flat_map g f [] = refl

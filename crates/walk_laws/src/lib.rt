@@ -4,3 +4,4 @@
 #![tactic(auto)]
 
 pub mod split_laws;
+pub mod subtree_laws;
