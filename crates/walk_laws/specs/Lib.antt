@@ -1,2 +1,4 @@
 pub mod Split
 pub mod Decoded
+pub mod Regions
+pub mod Children

@@ -3,5 +3,6 @@
 //! answer. Each law is the contract of a function that does nothing, and a lemma of `proofs/` to cite.
 #![tactic(auto)]
 
+pub mod root_laws;
 pub mod split_laws;
 pub mod subtree_laws;
