@@ -5,3 +5,7 @@ pub mod Plain
 pub mod Decoded
 pub mod Children
 pub mod Regions
+pub mod StepList
+pub mod PairOrder
+pub mod Faults
+pub mod StepLaw

@@ -121,3 +121,20 @@ range_shifted f a b zero = refl
 range_shifted f a b (suc n) =
     let next : a + b + 1 ≡ a + (b + 1) = omega arith in
     ap (λ k. f (a + b) ∷ map f (range_with_len k n)) next ∙ ap (λ w. f (a + b) ∷ w) (range_shifted f a (b + 1) n)
+
+-- optional values
+pub filter_map_same : {X Y : Type 0} (f g : X → Option Y) (xs : List X) → All (λ x. f x ≡ g x) xs → filter_map f xs ≡ filter_map g xs
+filter_map_same f g [] h = refl
+filter_map_same f g (x ∷ xs) h =
+    ap (λ o. cons_option o (filter_map f xs)) (All-head (λ w. f w ≡ g w) x xs h)
+    ∙ ap (λ w. cons_option (g x) w) (filter_map_same f g xs (All-tail (λ w. f w ≡ g w) x xs h))
+
+pub filter_map_none : {X Y : Type 0} (f : X → Option Y) (xs : List X) → All (λ x. f x ≡ None) xs → filter_map f xs ≡ []
+filter_map_none f [] h = refl
+filter_map_none f (x ∷ xs) h =
+    ap (λ o. cons_option o (filter_map f xs)) (All-head (λ w. f w ≡ None) x xs h) ∙ filter_map_none f xs (All-tail (λ w. f w ≡ None) x xs h)
+
+pub flat_map_none : {X Y : Type 0} (f : X → List Y) (xs : List X) → All (λ x. f x ≡ []) xs → flat_map f xs ≡ []
+flat_map_none f [] h = refl
+flat_map_none f (x ∷ xs) h =
+    ap (λ w. w ++ flat_map f xs) (All-head (λ w. f w ≡ []) x xs h) ∙ flat_map_none f xs (All-tail (λ w. f w ≡ []) x xs h)

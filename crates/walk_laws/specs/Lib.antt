@@ -2,3 +2,5 @@ pub mod Split
 pub mod Decoded
 pub mod Regions
 pub mod Children
+pub mod Stepped
+pub mod Faults

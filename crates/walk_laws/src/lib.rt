@@ -5,4 +5,5 @@
 
 pub mod root_laws;
 pub mod split_laws;
+pub mod step_laws;
 pub mod subtree_laws;
