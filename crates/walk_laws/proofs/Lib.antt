@@ -9,3 +9,5 @@ pub mod StepList
 pub mod PairOrder
 pub mod Faults
 pub mod StepLaw
+pub mod Whole
+pub mod Frontiers

@@ -4,3 +4,4 @@ pub mod Regions
 pub mod Children
 pub mod Stepped
 pub mod Faults
+pub mod Frontiers

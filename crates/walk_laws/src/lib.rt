@@ -3,6 +3,7 @@
 //! answer. Each law is the contract of a function that does nothing, and a lemma of `proofs/` to cite.
 #![tactic(auto)]
 
+pub mod frontier_laws;
 pub mod root_laws;
 pub mod split_laws;
 pub mod step_laws;
