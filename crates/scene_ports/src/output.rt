@@ -5,6 +5,7 @@ ghost use Rattle.scene_ports.specs.Counts.{Rose};
 ghost use Rattle.scene_ports.specs.Output.{GivesFront, GivesAllBut};
 
 use crate::{Give, Outlet};
+use std::alloc::AllocError;
 
 /// Why a text was not given whole.
 #[derive(Clone, Copy, Debug, PartialEq, Eq)]
@@ -13,6 +14,16 @@ pub enum GiveFault {
     WriteFault,
     /// There was no memory.
     Memory,
+}
+
+impl From<AllocError> for GiveFault {
+    ghost use Rattle.scene_ports.specs.declared.output.GiveFault.TheVariants.{Memory};
+
+    ghost from_gives = { λ _ fault. fault ≡ Memory };
+
+    fn from(_error: AllocError) -> GiveFault {
+        GiveFault::Memory
+    }
 }
 
 /// So many bytes make a piece that is worth a call of an outlet. Pieces stay below twice as many, 65,536, where no line
