@@ -19,11 +19,7 @@ pub enum GiveFault {
 impl From<AllocError> for GiveFault {
     ghost use Rattle.scene_ports.specs.declared.output.GiveFault.TheVariants.{Memory};
 
-<<<<<<< HEAD
-    ghost from_gives = { λ _ r. r ≡ Memory };
-=======
     ghost from_gives = { λ _ fault. fault ≡ Memory };
->>>>>>> aaa885cbfa262fa0397805c48fc660dfb6be57b6
 
     fn from(_error: AllocError) -> GiveFault {
         GiveFault::Memory
