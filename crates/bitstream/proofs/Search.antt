@@ -81,7 +81,7 @@ match_same p q from to (Some place) same found = first_same p q from to to place
 bit-drop : (n : ℕ) (bytes : List ℕ) (i : ℕ) → bit_of_bytes bytes (8 * n + i) ≡ bit_of_bytes (drop n bytes) i
 bit-drop n bytes i = ap (λ d. eqb d 1) (sym (digit-drop n bytes i))
 
-bit_in-drop : (n : ℕ) (bytes : List ℕ) (i : ℕ) → 8 * n ≤ i → bit_of_bytes bytes i ≡ bit_of_bytes (drop n bytes) (i - 8 * n)
+pub bit_in-drop : (n : ℕ) (bytes : List ℕ) (i : ℕ) → 8 * n ≤ i → bit_of_bytes bytes i ≡ bit_of_bytes (drop n bytes) (i - 8 * n)
 bit_in-drop n bytes i h = let e : i ≡ 8 * n + (i - 8 * n) = omega arith in ap (bit_of_bytes bytes) e ∙ bit-drop n bytes (i - 8 * n)
 
 -- after the first bytes, which have no one from `from` on

@@ -5,19 +5,25 @@ use std::test::Fail;
 
 #[test]
 fn bits(rt: HostRuntime) -> Result<(), Fail> {
-    // the count, then a search in all of it, and how many of the bits are 1
-    let rows: [(u64, Option<u64>, u64); 2] = [(264, Some(263), 1), (263, None, 0)];
-    for (count, found, ones) in rows {
-        let mut bytes = vec![in rt.alloc(); 0u8; 33]?;
-        bytes[32] = 0x80;
+    // of so many bytes, all 0 but the last, so many bits: their first 1, and how many they have
+    let rows: [(usize, u64, Option<u64>, u64); 3] = [
+        (33, 264, Some(263), 1),
+        (33, 263, None, 0),
+        (133, 1064, Some(1063), 1),
+    ];
+    for (length, count, found, ones) in rows {
+        let mut bytes = vec![in rt.alloc(); 0u8; length]?;
+        if let Some(last) = bytes.last_mut() {
+            *last = 0x80;
+        }
         let Some(bits) = Bits::of_bytes(bytes, count) else {
-            return Err(Fail::new("33 bytes are enough"));
+            return Err(Fail::new("the bytes are enough"));
         };
         let end = bits.count();
         assert!(rt; end == count);
         assert!(rt; bits.next_one(0, end) == found);
-        assert!(rt; bits.next_one(0, end - end / 264) == None);
-        assert!(rt; bits.ones(end) == ones);
+        assert!(rt; bits.next_one(0, end.saturating_sub(1)).is_none());
+        assert!(rt; bits.ones(end) == ones && bits.ones(end.saturating_sub(1)) == 0);
     }
     assert!(rt; Bits::of_bytes(vec![in rt.alloc(); 0u8; 33]?, 265).is_none());
     for (bit, count) in [(false, u64::MAX), (true, u64::MAX)] {

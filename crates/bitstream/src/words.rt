@@ -1,5 +1,5 @@
 // Bytes by words of 64 bits, least significant first.
-ghost use Rattle.std.specs.Prelude.{◌≡◌, ◌*◌, ◌^◌, ◌<◌, ◌≤◌, MatchOption, length};
+ghost use Rattle.std.specs.Prelude.{◌≡◌, ◌*◌, ◌^◌, ◌<◌, ◌≤◌, IsTrue, MatchOption, length};
 ghost use Rattle.bitstream.specs.Bits.{bit_of_bytes, bits_of_bytes, ones_of, HasNoOne, IsFirstOne};
 ghost use Rattle.bitstream.specs.Words.{IsWordOf};
 
@@ -70,6 +70,37 @@ fn first_one_from(bytes: &[u8], from: u64) -> Option<u64>
 
 // The least place of a 1.
 fn first_one(bytes: &[u8]) -> Option<u64>
+    requires { 8 * length bytes.now ≤ 2 ^ 64 }
+    ensures { MatchOption result (HasNoOne (bit_of_bytes bytes.now) 0 (8 * length bytes.now)) (IsFirstOne (bit_of_bytes bytes.now) 0 (8 * length bytes.now)) }
+{
+    let skipped = zeros_in_front(bytes);
+    let place = first_one_by_words(&bytes[skipped..])?;
+    Some(8 * skipped as u64 + place)
+}
+
+// Bytes in front that are 0, in whole blocks of 32, so that four words share one branch.
+fn zeros_in_front(bytes: &[u8]) -> usize
+    ensures within { result ≤ length bytes.now }
+    ensures zeros { HasNoOne (bit_of_bytes bytes.now) 0 (8 * result) }
+{
+    let (blocks, _) = bytes.as_chunks::<32>();
+    for (index, block) in blocks.iter().enumerate() {
+        if !is_zero(*block) {
+            return 32 * index;
+        }
+    }
+    32 * blocks.len()
+}
+
+fn is_zero(block: [u8; 32]) -> bool
+    ensures { IsTrue result → HasNoOne (bit_of_bytes block) 0 256 }
+{
+    let (words, _) = block.as_chunks::<8>();
+    word_of(words[0]) | word_of(words[1]) | word_of(words[2]) | word_of(words[3]) == 0
+}
+
+// The least place of a 1, where it is near.
+fn first_one_by_words(bytes: &[u8]) -> Option<u64>
     requires { 8 * length bytes.now ≤ 2 ^ 64 }
     ensures { MatchOption result (HasNoOne (bit_of_bytes bytes.now) 0 (8 * length bytes.now)) (IsFirstOne (bit_of_bytes bytes.now) 0 (8 * length bytes.now)) }
 {
