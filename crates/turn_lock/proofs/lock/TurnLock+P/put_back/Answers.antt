@@ -1,4 +1,4 @@
-use Rattle.std.proofs.Common.{rules, ◌∷◌, sym, ap, ◌∙◌}
+use Rattle.std.proofs.Common.{rules, ◌∷◌, Some, sym, ap, ◌∙◌}
 use Rattle.atomic_table.specs.Table.{rest}
 use Rattle.turn_lock.specs.Seats.{carried_by}
 use Rattle.turn_lock.proofs.Keeps.{end_allowed}
@@ -8,7 +8,7 @@ pub store-requires : goal.store-requires
 store-requires g c =
     let e = c.exchange-empty.ensures in
     let s = c.requires.stands in
-    let before = c.requires.carried ∙ ap carried_by s.2 in (
+    let before = c.requires.carried ∙ ap carried_by {y = Some s.0} s.2 in (
       e.0 ∙ (c.requires.own ∙ sym c.self.view_is),
       search rules,
       end_allowed _ _ _ _ _ s.0
