@@ -1,3 +1,4 @@
+pub mod Limits
 pub mod Tile
 pub mod Checks
 pub mod Region
@@ -5,7 +6,11 @@ pub mod Files
 pub mod Template
 pub mod Scene
 pub mod Availability
+pub mod Subtree
 pub mod Answer
+pub mod Checked
 pub mod Code
+pub mod Nodes
+pub mod Steps
 pub mod Request
 pub mod Text

@@ -1,7 +1,6 @@
--- A request line, LEVEL LO HI, and the words of a command line (this project's own).
-use Rattle.std.specs.Prelude.{ℕ, ◌+◌, ◌^◌, ◌&&◌, ◌||◌, ◌==◌, nat_lt, not, Bool, List, codes, [], ◌∷◌, length, Option, Some, None, option_and_then, option_map, Result, Ok, Err, if◌then◌else◌, slice_index}
+-- A request line, LEVEL LO HI, and the rules that refuse it (this project's own).
+use Rattle.std.specs.Prelude.{ℕ, ◌+◌, ◌^◌, ◌&&◌, ◌||◌, ◌==◌, nat_lt, not, Bool, List, [], ◌∷◌, length, Option, Some, None, option_and_then, option_map, Result, Ok, Err, if◌then◌else◌, slice_index}
 use Rattle.std.specs.List.{list_all, slice_split}
-use Rattle.std.specs.Str.{bytes_eq}
 use Rattle.std.specs.Char.{is_ascii_digit}
 use Rattle.std.specs.Str.Parse.{digits_value}
 use Rattle.implicit_tiling.specs.declared.Scheme.{Scheme}
@@ -62,13 +61,3 @@ abbrev pub plan_of_line : Scheme → ℕ → Option Line → Result Plan ℕ
 plan_of_line scheme levels read = need 1 read (λ line.
     refuse 2 (not (length line.lo == axes scheme && length line.hi == axes scheme))
     (planned scheme (region_of levels line.level (three line.lo) (three line.hi))))
-
--- the words without the first that is `--`
-abbrev pub without_dashes : List (List ℕ) → List (List ℕ)
-without_dashes [] = []
-without_dashes (word ∷ words) = if bytes_eq word (codes "--") then words else word ∷ without_dashes words
-
--- the line that the words of a command line ask for: `tiles`, and three words
-abbrev pub asked : List (List ℕ) → Option Line
-asked [] = None
-asked (name ∷ words) = if bytes_eq name (codes "tiles") then line_of_words (without_dashes words) else None

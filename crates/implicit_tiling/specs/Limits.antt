@@ -1,0 +1,21 @@
+-- The limits of what is read (this project's own).
+use Rattle.std.specs.Prelude.{ℕ}
+use Rattle.implicit_tiling.specs.declared.Scheme.{Scheme}
+use Rattle.implicit_tiling.specs.declared.Scheme.TheVariants.{Quad, Oct}
+
+-- the most levels in all, and in a subtree
+abbrev pub most_levels : Scheme → ℕ
+most_levels Quad = 26
+most_levels Oct = 18
+
+abbrev pub most_subtree_levels : Scheme → ℕ
+most_subtree_levels Quad = 10
+most_subtree_levels Oct = 7
+
+-- the most contents of a tile
+abbrev pub most_contents : ℕ
+most_contents = 8
+
+-- the most bytes of a file
+abbrev pub most_file_bytes : ℕ
+most_file_bytes = 16777216

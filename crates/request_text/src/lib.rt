@@ -1,0 +1,9 @@
+//! Request lines and the texts of answers: what a user writes, and what is written back.
+//! Both are exact: a line is read to its plan or refused by the first rule that it breaks, and an outlet gets the text
+//! of an answer and nothing else.
+#![tactic(auto)]
+
+mod line;
+mod text;
+
+pub use line::{Refusal, is_coordinates, is_number, parse_line};

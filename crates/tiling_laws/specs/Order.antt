@@ -1,0 +1,22 @@
+-- The order of tiles by their keys, and the list of all tiles (this project's own).
+use Rattle.std.specs.Prelude.{◌≡◌, ℕ, ◌≤◌, ◌↔◌, ◌⊎◌, true, false}
+use Rattle.std.specs.List.{AllPairs, Contains}
+use Rattle.implicit_tiling.specs.declared.Scheme.{Scheme}
+use Rattle.implicit_tiling.specs.Tile.{Tile, IsTile, is_key_below, all_tiles}
+
+-- no key is below itself, keys below one another make a chain, and of two tiles one is below the other or they are one
+pub record IsStrictOrder (scheme : Scheme) : Type 0 where
+  pub irreflexive : (t : Tile) → is_key_below scheme t t ≡ false
+  pub transitive : (t u v : Tile) → is_key_below scheme t u ≡ true → is_key_below scheme u v ≡ true → is_key_below scheme t v ≡ true
+  pub total : (t u : Tile) → IsTile scheme t → IsTile scheme u → (t ≡ u) ⊎ ((is_key_below scheme t u ≡ true) ⊎ (is_key_below scheme u t ≡ true))
+
+abbrev pub KeysAreAnOrder : Type 0
+KeysAreAnOrder = (scheme : Scheme) → IsStrictOrder scheme
+
+-- the key of each tile in the list is below those of all later ones
+abbrev pub KeysRise : Type 0
+KeysRise = (scheme : Scheme) (last : ℕ) → AllPairs (λ t u. is_key_below scheme t u ≡ true) (all_tiles scheme last)
+
+-- the list has each tile of the levels 0 to last, and nothing else
+abbrev pub AllTilesAreThere : Type 0
+AllTilesAreThere = (scheme : Scheme) (last : ℕ) (t : Tile) → Contains (all_tiles scheme last) t ↔ (IsTile scheme t × (t.level ≤ last))
