@@ -7,7 +7,8 @@ use crate::view::View;
 use contract_tokens::Kept;
 use std::marker::Model;
 
-/// A seat, which a thread takes the value with. It has no bytes, and any thread may have it.
+/// A seat, which a thread takes the value with. It has no bytes, and any thread may have it. A seat that is dropped
+/// while it has the value out keeps the turn for good.
 pub type Seat<P> = Seated<<P as TurnRule>::Tag, <P as TurnRule>::Note, <P as TurnRule>::Value>;
 
 /// A seat, by the types of its rule. Contracts see its table, tag, note, tries and what it has out, and beside these
