@@ -3,6 +3,7 @@
 //! of an answer and nothing else.
 #![tactic(auto)]
 
+pub mod laws;
 mod line;
 mod text;
 
