@@ -11,3 +11,5 @@ pub mod Faults
 pub mod StepLaw
 pub mod Whole
 pub mod Frontiers
+pub mod Pairs
+pub mod PairAnswers
