@@ -13,3 +13,4 @@ pub mod Whole
 pub mod Frontiers
 pub mod Pairs
 pub mod PairAnswers
+pub mod WalkRoots
