@@ -1,7 +1,7 @@
 -- The answer and the steps of a walk by the pairs that are done.
-use Rattle.std.proofs.Common.{◌≡◌, ℕ, zero, suc, ◌+◌, ◌-◌, ◌<◌, ◌≤◌, Bool, true, false, List, [], ◌∷◌, ◌++◌, Option, Some, None, get_or, length, take, map, refl, sym, ap, ◌∙◌, arith, add-zero, zero-add, append-nil, length-append, add_assoc}
+use Rattle.std.proofs.Common.{◌≡◌, ℕ, ◌+◌, ◌<◌, ◌≤◌, List, [], ◌∷◌, ◌++◌, Option, Some, None, get_or, length, take, map, refl, sym, ap, ◌∙◌, arith, add-zero, zero-add, append-nil, length-append}
 use Rattle.std.specs.Prelude.{nat_lt, option_map}
-use Rattle.std.specs.List.{flat_map, filter_map, cons_option, All}
+use Rattle.std.specs.List.{flat_map, filter_map, cons_option}
 use Rattle.std.proofs.lemmas.Bool.{lt-ltb, le-ltb}
 use Rattle.std.proofs.lemmas.List.{take_all, take-append-le}
 use Rattle.std.proofs.lemmas.List.Elements.{All-head, All-tail, filter_map-append}
@@ -9,8 +9,8 @@ use Rattle.std.proofs.lemmas.Grind.{flat_map-append}
 use Rattle.implicit_tiling.specs.Tile.{Tile}
 use Rattle.implicit_tiling.specs.Region.{Region}
 use Rattle.implicit_tiling.specs.Scene.{Scene}
-use Rattle.implicit_tiling.specs.Answer.{End, complete, too_many, fault, first, tiles, most_tiles, end_at, end_from, end_of, Answer, answer}
-use Rattle.implicit_tiling.specs.Steps.{Pair, pairs, segment, pair_fault, partial, Step, step_then, steps, steps_from, last_or_not, StepEnd}
+use Rattle.implicit_tiling.specs.Answer.{complete, too_many, fault, first, tiles, most_tiles, end_at, end_from, end_of, Answer, answer}
+use Rattle.implicit_tiling.specs.Steps.{Pair, pairs, segment, pair_fault, partial, Step, step_then, steps, steps_from, last_or_not}
 use Rattle.walk_laws.specs.Pairs.{NoPairFaults, tiles_of_pairs, step_on}
 use Rattle.walk_laws.proofs.Lists.{filter_map_none}
 use Rattle.walk_laws.proofs.Faults.{faults_by_pair}
@@ -22,8 +22,10 @@ abbrev answer_of : List Tile → Option (Tile × ℕ) → Answer
 answer_of ts found = record { tiles = take most_tiles ts; end = end_of (length ts) found }
 
 pub answer_by_pairs : (s : Scene) (region : Region) → 1 ≤ s.layout.subtree_levels
-    → answer s region ≡ record { tiles = take most_tiles (tiles_before s region (pairs s region));
-        end = end_of (length (tiles_before s region (pairs s region))) (first (filter_map (pair_fault_at s) (pairs s region))) }
+    → answer s region ≡ record {
+      tiles = take most_tiles (tiles_before s region (pairs s region));
+      end = end_of (length (tiles_before s region (pairs s region))) (first (filter_map (pair_fault_at s) (pairs s region)));
+    }
 answer_by_pairs s region some =
     ap (λ f. answer_of (tiles s region) f) (ap first (faults_by_pair s region))
     ∙ ap (λ ts. answer_of ts (first (filter_map (pair_fault_at s) (pairs s region)))) (tiles_are s region some)

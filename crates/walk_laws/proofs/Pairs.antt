@@ -1,7 +1,7 @@
 -- The pairs of a walk, level by level.
-use Rattle.std.proofs.Common.{◌≡◌, ℕ, zero, suc, ◌+◌, ◌-◌, ◌%◌, ◌<◌, ◌≤◌, Bool, true, false, List, [], ◌∷◌, ◌++◌, Option, Some, None, get_or, map, refl, sym, ap, ◌∙◌, arith, zero-add, append-nil}
+use Rattle.std.proofs.Common.{◌≡◌, ℕ, ◌+◌, ◌-◌, ◌%◌, ◌<◌, ◌≤◌, Bool, true, false, List, [], ◌++◌, None, get_or, map, refl, sym, ap, ◌∙◌, arith, zero-add, append-nil}
 use Rattle.std.specs.Prelude.{◌==◌, filter}
-use Rattle.std.specs.List.{flat_map, range_with_len, All}
+use Rattle.std.specs.List.{flat_map, range_with_len}
 use Rattle.std.proofs.lemmas.Bool.{eq-eqb, ne_eqb}
 use Rattle.std.proofs.lemmas.List.Elements.{All-map}
 use Rattle.std.proofs.lemmas.Grind.{flat_map-append}
@@ -9,7 +9,7 @@ use Rattle.implicit_tiling.specs.Tile.{Tile, tile_at, tiles_of_level}
 use Rattle.implicit_tiling.specs.Region.{Region}
 use Rattle.implicit_tiling.specs.Scene.{Scene, fault_of}
 use Rattle.implicit_tiling.specs.Answer.{is_on_walk}
-use Rattle.implicit_tiling.specs.Steps.{Pair, pair_of, root_level, walk_roots, pairs, fault_at_start, pair_fault}
+use Rattle.implicit_tiling.specs.Steps.{pair_of, root_level, walk_roots, pairs, fault_at_start, pair_fault}
 use Rattle.tiling_laws.proofs.TileAt.{tile_at_level}
 use Rattle.walk_laws.specs.Faults.{NoFaults}
 use Rattle.walk_laws.specs.Pairs.{level_pairs, pairs_above, NoPairFaults}
