@@ -10,6 +10,7 @@ use Rattle.implicit_tiling.specs.Template.{filled}
 use Rattle.implicit_tiling.specs.Scene.{Layout, Scene}
 use Rattle.implicit_tiling.specs.Availability.{mask}
 use Rattle.implicit_tiling.specs.Code.{word_tile, word_mask}
+use Rattle.implicit_tiling.specs.Steps.{StepEnd, partial, ended}
 use Rattle.implicit_tiling.specs.Checked.{Checked}
 use Rattle.implicit_tiling.specs.Answer.{End, complete, too_many, fault, Answer, answer}
 
@@ -43,8 +44,13 @@ answer_text s a = flat_map (λ t. tile_line s.layout t (mask s t)) a.tiles ++ en
 abbrev pub word_line : Layout → ℕ → List ℕ
 word_line layout w = tile_line layout (word_tile layout.scheme w) (word_mask w)
 
-abbrev pub words_text : Layout → List ℕ → End → List ℕ
-words_text layout words end = flat_map (word_line layout) words ++ end_line layout.scheme (length words) end
+-- the end line of a walk that goes on, or has ended
+abbrev pub step_end_line : Scheme → ℕ → StepEnd → List ℕ
+step_end_line scheme n partial = line (codes "end" ∷ codes "partial" ∷ decimal n ∷ [])
+step_end_line scheme n (ended end) = end_line scheme n end
+
+abbrev pub words_text : Layout → List ℕ → StepEnd → List ℕ
+words_text layout words end = flat_map (word_line layout) words ++ step_end_line layout.scheme (length words) end
 
 abbrev pub refused_text : ℕ → List ℕ
 refused_text k = line (codes "refused" ∷ decimal k ∷ [])

@@ -7,3 +7,4 @@ mod line;
 mod text;
 
 pub use line::{Refusal, is_coordinates, is_number, parse_line};
+pub use text::{write_answer, write_refusal};

@@ -1,0 +1,87 @@
+// The words of tiles.
+ghost use Rattle.std.specs.Prelude.{◌≡◌, ◌^◌, ◌<◌, ◌↔◌, IfSome, IsSome};
+ghost use Rattle.implicit_tiling.specs.Limits.{most_levels as most_levels_of};
+ghost use Rattle.implicit_tiling.specs.Tile.{IsTile, branching, index, tile_at as tile_at_of};
+ghost use Rattle.implicit_tiling.specs.Code.{word as word_for, word_tile, word_mask, IsWord};
+
+use crate::nodes::{most_levels, nodes_at};
+use morton::{coords2, coords3, index2, index3};
+use tile_coords::{Scheme, Tile, Word};
+
+// The place of a word's mask, of 8 bits, and of its level; the index stands below them.
+const MASK_PLACE: u32 = 51;
+
+const LEVEL_PLACE: u32 = 59;
+
+const MASK_BITS: u64 = 0xFF;
+
+/// A tile, and a mask of its contents: bit c for content c.
+#[derive(Clone, Copy, Debug, PartialEq, Eq)]
+pub struct WordTile {
+    pub tile: Tile,
+    pub mask: u8,
+}
+
+/// The word of a tile and a mask of its contents. Words of one mask are ordered as the keys of their tiles.
+#[inline]
+pub fn word_of(scheme: Scheme, tile: &Tile, mask: u8) -> Word
+    requires within { tile.now.level < most_levels_of scheme }
+    requires tile { IsTile scheme tile.now }
+    ensures { result ≡ word_for scheme tile.now mask }
+{
+    u64::from(tile.level) << LEVEL_PLACE | u64::from(mask) << MASK_PLACE | index_of(scheme, tile)
+}
+
+/// The tile and the mask of a word. None exactly where the number is no word: its level is past the limit, or its
+/// index is past its level.
+#[inline]
+pub fn tile_of(scheme: Scheme, word: Word) -> Option<WordTile>
+    ensures accepted { IsSome result ↔ IsWord scheme word }
+    ensures tile { IfSome result (λ t. t.tile ≡ word_tile scheme word) }
+    ensures mask { IfSome result (λ t. t.mask ≡ word_mask word) }
+    ensures is_tile { IfSome result (λ t. IsTile scheme t.tile) }
+    ensures within { IfSome result (λ t. t.tile.level < most_levels_of scheme) }
+{
+    let level = (word >> LEVEL_PLACE) as u32;
+    let mask = (word >> MASK_PLACE & MASK_BITS) as u8;
+    let index = word & ((1 << MASK_PLACE) - 1);
+    if level >= most_levels(scheme) || index >= nodes_at(scheme, level) {
+        return None;
+    }
+    Some(WordTile {
+        tile: tile_at(scheme, level, index),
+        mask,
+    })
+}
+
+/// The Morton index of a tile within its level (OGC 22-025r4, implicit tiling: Morton index).
+#[inline]
+pub fn index_of(scheme: Scheme, tile: &Tile) -> u64
+    requires within { tile.now.level < most_levels_of scheme }
+    requires tile { IsTile scheme tile.now }
+    ensures { result ≡ index scheme tile.now }
+{
+    match scheme {
+        Scheme::Quad => index2(tile.x, tile.y),
+        Scheme::Oct => index3(tile.x, tile.y, tile.z),
+    }
+}
+
+/// The tile of a level and a Morton index within it: the inverse of `index_of`.
+#[inline]
+pub fn tile_at(scheme: Scheme, level: u32, index: u64) -> Tile
+    requires within { level < most_levels_of scheme }
+    requires index { index < branching scheme ^ level }
+    ensures { result ≡ tile_at_of scheme level index }
+{
+    match scheme {
+        Scheme::Quad => {
+            let (x, y) = coords2(index);
+            Tile { level, x, y, z: 0 }
+        }
+        Scheme::Oct => {
+            let (x, y, z) = coords3(index);
+            Tile { level, x, y, z }
+        }
+    }
+}

@@ -1,0 +1,5 @@
+pub mod Digits
+pub mod Lists
+pub mod Ones
+pub mod Parts
+pub mod Search

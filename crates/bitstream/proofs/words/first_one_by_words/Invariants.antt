@@ -1,0 +1,6 @@
+use Rattle.std.proofs.Common.{◌*◌}
+use Rattle.bitstream.specs.Bits.{bit_of_bytes, HasNoOne}
+use Rattle.bitstream.proofs.words.first_one_by_words.Given as goal
+
+abbrev pub invariant-loop-index : goal.invariant-loop-index
+invariant-loop-index l = HasNoOne (bit_of_bytes l.bytes) 0 (64 * l.index)

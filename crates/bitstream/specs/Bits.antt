@@ -1,0 +1,33 @@
+-- The bits of a bitstream, as a list (OGC 22-025r4, availability bitstreams).
+use Rattle.std.specs.Prelude.{◌≡◌, ℕ, ◌/◌, ◌%◌, ◌^◌, ◌<◌, ◌≤◌, ◌==◌, Bool, true, false, List, map, slice_index, slice_index_or}
+use Rattle.std.specs.List.{range_with_len, count_by}
+
+-- bit i of some bytes, as 0 or 1: bit i mod 8 of byte i / 8, where bit 0 of a byte is its least significant one
+abbrev pub digit_of_bytes : List ℕ → ℕ → ℕ
+digit_of_bytes bytes i = slice_index bytes (i / 8) / 2 ^ (i % 8) % 2
+
+abbrev pub bit_of_bytes : List ℕ → ℕ → Bool
+bit_of_bytes bytes i = digit_of_bytes bytes i == 1
+
+-- the first bits of some bytes
+abbrev pub bits_of_bytes : List ℕ → ℕ → List Bool
+bits_of_bytes bytes count = map (bit_of_bytes bytes) (range_with_len 0 count)
+
+-- bit i of a list of bits: false past its end
+abbrev pub bit_at : List Bool → ℕ → Bool
+bit_at bits i = slice_index_or bits i false
+
+-- how many of the bits are 1
+abbrev pub ones_of : List Bool → ℕ
+ones_of bits = count_by (λ bit. bit) bits
+
+-- none of the places from `from` up to `to` has a 1
+abbrev pub HasNoOne : (ℕ → Bool) → ℕ → ℕ → Type 0
+HasNoOne bit from to = (i : ℕ) → from ≤ i → i < to → bit i ≡ false
+
+-- the least of the places from `from` up to `to` that has a 1
+pub record IsFirstOne (bit : ℕ → Bool) (from to place : ℕ) : Type 0 where
+  pub low : from ≤ place
+  pub high : place < to
+  pub one : bit place ≡ true
+  pub before : HasNoOne bit from place

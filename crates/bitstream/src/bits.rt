@@ -1,0 +1,101 @@
+// Bits: a constant or a bitstream.
+ghost use Rattle.std.specs.Prelude.{◌≡◌, ◌*◌, ◌<◌, ◌≤◌, ◌↔◌, IfSome, IsNone, MatchOption, length, replicate, take};
+ghost use Rattle.bitstream.specs.Bits.{bit_at, bits_of_bytes, ones_of, HasNoOne, IsFirstOne};
+
+use crate::words::{first_one_in, ones_in};
+use std::marker::Model;
+
+/// How bits are held.
+#[derive(Drop)]
+enum Kind {
+    /// The same bit, so many times.
+    Constant { bit: bool, count: u64 },
+    /// The first bits of these bytes.
+    Bytes { bytes: Vec<u8>, count: u64 },
+}
+
+/// Bits in order (OGC 22-025r4, availability: `constant` and `bitstream`). Contracts see their list.
+#[derive(Drop)]
+pub struct Bits {
+    kind: Kind,
+}
+
+impl Model for Bits {
+    ghost use Rattle.std.specs.Prelude.{List, Bool};
+    ghost use Rattle.bitstream.specs.Kind.{bits_of, HasBits};
+
+    ghost Value = { List Bool };
+
+    ghost view = { λ b. bits_of b.kind };
+
+    ghost invariant = { λ b. HasBits b.kind };
+}
+
+impl Bits {
+    /// The same bit `count` times. It takes no room for them.
+    pub fn constant(bit: bool, count: u64) -> Bits
+        ensures { result ≡ replicate count bit }
+    {
+        Bits {
+            kind: Kind::Constant { bit, count },
+        }
+    }
+
+    /// The first `count` bits of the bytes: bit i is bit i mod 8 of byte i / 8, least significant first. Bits past
+    /// them are ignored. None exactly where the bytes have fewer bits.
+    pub fn of_bytes(bytes: Vec<u8>, count: u64) -> Option<Bits>
+        ensures none { IsNone result ↔ (8 * length bytes.items < count) }
+        ensures bits { IfSome result (λ bits. bits ≡ bits_of_bytes bytes.items count) }
+    {
+        if count.div_ceil(8) > bytes.len() as u64 {
+            return None;
+        }
+        Some(Bits {
+            kind: Kind::Bytes { bytes, count },
+        })
+    }
+
+    /// How many bits there are.
+    pub fn count(&self) -> u64
+        ensures { result ≡ length self.now }
+    {
+        match &self.kind {
+            Kind::Constant { count, .. } => *count,
+            Kind::Bytes { count, .. } => *count,
+        }
+    }
+
+    /// Bit i.
+    pub fn get(&self, i: u64) -> bool
+        requires { i < length self.now }
+        ensures { result ≡ bit_at self.now i }
+    {
+        match &self.kind {
+            Kind::Constant { bit, .. } => *bit,
+            Kind::Bytes { bytes, .. } => bytes[(i / 8) as usize] >> (i % 8) & 1 == 1,
+        }
+    }
+
+    /// How many of the first n bits are 1.
+    pub fn ones(&self, n: u64) -> u64
+        requires { n ≤ length self.now }
+        ensures { result ≡ ones_of (take n self.now) }
+    {
+        match &self.kind {
+            Kind::Constant { bit, .. } => { if *bit { n } else { 0 } }
+            Kind::Bytes { bytes, .. } => ones_in(bytes, n),
+        }
+    }
+
+    /// The least place of a 1 from `from` up to `to`, which is past the last. None exactly where there is none.
+    pub fn next_one(&self, from: u64, to: u64) -> Option<u64>
+        requires order { from ≤ to }
+        requires within { to ≤ length self.now }
+        ensures { MatchOption result (HasNoOne (bit_at self.now) from to) (IsFirstOne (bit_at self.now) from to) }
+    {
+        match &self.kind {
+            Kind::Constant { bit, .. } => (*bit && from < to).then_some(from),
+            Kind::Bytes { bytes, .. } => first_one_in(bytes, from, to),
+        }
+    }
+}
