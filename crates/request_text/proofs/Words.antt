@@ -1,22 +1,22 @@
 -- The words of an answer's tiles make its text.
-use Rattle.std.proofs.Common.{◌≡◌, ℕ, zero, suc, ◌+◌, ◌^◌, ◌<◌, ◌≤◌, Bool, true, false, List, [], ◌∷◌, ◌++◌, length, take, map, refl, sym, ap, ◌∙◌, arith, add-one, get_or}
-use Rattle.std.specs.Prelude.{filter, ◌&&◌, ◌*◌, if◌then◌else◌}
+use Rattle.std.proofs.Common.{◌≡◌, ℕ, zero, suc, ◌+◌, ◌^◌, ◌<◌, ◌≤◌, Bool, true, false, List, [], ◌∷◌, ◌++◌, length, map, refl, ap, ◌∙◌, arith, add-one, lit<}
+use Rattle.std.specs.Prelude.{◌&&◌, ◌*◌, if◌then◌else◌}
 use Rattle.std.specs.List.{flat_map, All, AllByRecursion}
 use Rattle.std.proofs.Math.Nat.{pow-suc, pow-le-pow_right}
 use Rattle.std.proofs.lemmas.List.{length-map}
 use Rattle.std.proofs.lemmas.List.Elements.{All-filter, All-take, recursion_from_All}
 use Rattle.implicit_tiling.specs.declared.Scheme.{Scheme}
 use Rattle.implicit_tiling.specs.Limits.{most_levels}
-use Rattle.implicit_tiling.specs.Tile.{Tile, IsTile, tile_at, all_tiles}
+use Rattle.implicit_tiling.specs.Tile.{Tile, all_tiles}
 use Rattle.implicit_tiling.specs.Region.{Region, is_in}
 use Rattle.implicit_tiling.specs.Scene.{Scene, content_bits_of}
 use Rattle.implicit_tiling.specs.Availability.{mask, mask_from, content_bit, subtree_root, place, is_available}
 use Rattle.implicit_tiling.specs.Answer.{answer, tiles, first_fault, is_before, most_tiles}
-use Rattle.implicit_tiling.specs.Code.{word, word_tile, word_mask}
+use Rattle.implicit_tiling.specs.Code.{word_mask}
 use Rattle.implicit_tiling.specs.Text.{tile_line, word_line, end_line}
 use Rattle.tiling_laws.proofs.TileAt.{tile_at_is_tile, tile_at_level}
 use Rattle.tiling_laws.proofs.Order.{of_all_tiles}
-use Rattle.availability.specs.Words.{HasWord, HasParts}
+use Rattle.availability.specs.Words.{HasWord}
 use Rattle.availability.proofs.Tiles.{words_have_their_parts}
 use Rattle.request_text.specs.Laws.{WordsMakeTheText, tile_word}
 
@@ -30,19 +30,21 @@ bit_below s t c bits = worth (bits (place s.layout t)) c
 
 -- the contents from c on make less than their number of places holds
 mask_within : (s : Scene) (t : Tile) (c : ℕ) (templates : List (List ℕ)) (bits : List (ℕ → Bool)) → mask_from s t c templates bits + 2 ^ c ≤ 2 ^ (c + length templates)
-mask_within s t c [] bits = omega arith
+mask_within s t c [] bits =
+    let same : 2 ^ c ≤ 2 ^ (c + zero) = pow-le-pow_right (lit< tt) (omega arith) in omega (arith, same)
 mask_within s t c (template ∷ templates) [] =
-    let grows : 2 ^ c ≤ 2 ^ (c + suc (length templates)) = pow-le-pow_right (omega arith) (omega arith) in omega (arith, grows)
+    let grows : 2 ^ c ≤ 2 ^ (c + suc (length templates)) = pow-le-pow_right (lit< tt) (omega arith) in omega (arith, grows)
 mask_within s t c (template ∷ templates) (b ∷ bits) =
     let same : c + 1 + length templates ≡ c + suc (length templates) = omega arith in
     let rest : mask_from s t (c + 1) templates bits + 2 ^ (c + 1) ≤ 2 ^ (c + suc (length templates)) = rw (← same) (mask_within s t (c + 1) templates bits) in
-    let twice : 2 ^ (c + 1) ≡ 2 * 2 ^ c = ap (λ n. 2 ^ n) (add-one c) ∙ pow-suc 2 c in
+    let twice : 2 ^ (c + 1) ≡ 2 ^ c * 2 = ap (λ n. 2 ^ n) (add-one c) ∙ pow-suc 2 c in
     omega (arith, rest, twice, bit_below s t c b)
 
 mask_fits : (s : Scene) (t : Tile) → length s.layout.contents ≤ 8 → mask s t < 2 ^ 8
 mask_fits s t few =
     let within : mask s t + 2 ^ 0 ≤ 2 ^ (0 + length s.layout.contents) = mask_within s t 0 s.layout.contents (content_bits_of (s.outcome (subtree_root s.layout t))) in
-    let small : 2 ^ (0 + length s.layout.contents) ≤ 2 ^ 8 = pow-le-pow_right (omega arith) (omega arith) in
+    let most : 0 + length s.layout.contents ≤ 8 = omega (arith, few) in
+    let small : 2 ^ (0 + length s.layout.contents) ≤ 2 ^ 8 = pow-le-pow_right (lit< tt) most in
     omega (arith, within, small)
 
 -- the line by a tile's word is the tile's line

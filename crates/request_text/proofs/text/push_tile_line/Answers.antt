@@ -1,4 +1,4 @@
-use Rattle.std.proofs.Common.{◌≡◌, ℕ, List, ap, sym, ◌∙◌, string_bytes, ◌++◌, ◌∷◌, []}
+use Rattle.std.proofs.Common.{◌≡◌, ap, ◌∙◌, string_bytes, ◌∷◌, []}
 use lib.Utf8.{encode}
 use Rattle.implicit_tiling.specs.Scene.{Layout}
 use Rattle.request_text.proofs.Fields.{line_written, on_ok, pushed}

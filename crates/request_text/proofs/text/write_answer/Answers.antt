@@ -1,10 +1,8 @@
-use Rattle.std.proofs.Common.{◌≡◌, ◌++◌, ◌∙◌, arith, take, length, take_all, string_bytes, List, ℕ, ap}
-use Rattle.std.specs.List.{flat_map}
+use Rattle.std.proofs.Common.{◌≡◌, ◌++◌, ◌∙◌, arith, take, length, take_all, List, ℕ, ap}
 use Rattle.implicit_tiling.specs.Scene.{Layout}
 use Rattle.implicit_tiling.specs.declared.Scheme.{Scheme}
 use Rattle.implicit_tiling.specs.Text.{word_line, step_end_line}
 use Rattle.tile_coords.specs.Ends.{end_seen}
-use Rattle.scene_ports.specs.Output.{GivesAllBut}
 use Rattle.scene_ports.proofs.Giving.{all_but_front}
 use Rattle.request_text.proofs.Fields.{on_ok}
 use Rattle.request_text.proofs.Lines.{lines_front, line_given, line_front, end_given, end_front}
