@@ -5,7 +5,7 @@ ghost use Rattle.implicit_tiling.specs.Subtree.{is_kept as is_kept_of, has_tile,
 ghost use Rattle.availability.specs.Rules.{rule_fault, IsKeptCount};
 
 use crate::nodes::nodes_above;
-use crate::rules::{has_orphan_at, is_within, mask_at};
+use crate::rules::{has_orphan_at, mask_at};
 use bitstream::Bits;
 use std::marker::Model;
 use tile_coords::{Scheme, Tile};
@@ -124,7 +124,7 @@ impl Subtree {
     {
         let kept = nodes_above(self.scheme, self.kept_levels());
         for bits in &self.contents {
-            if !is_within(bits, &self.tiles, kept) {
+            if !bits.is_within(&self.tiles, kept) {
                 return true;
             }
         }
