@@ -108,10 +108,16 @@ impl Subtree {
         self.levels.min(self.cut - self.root.level)
     }
 
+    // Where all nodes are there, as those of a constant 1, no parent is looked at.
     fn has_orphan(&self) -> bool
         ensures { result ≡ has_orphan_of self.now }
     {
-        for local in 1..self.kept_levels() {
+        let kept = self.kept_levels();
+        let nodes = nodes_above(self.scheme, kept);
+        if self.tiles.ones(nodes) == nodes {
+            return false;
+        }
+        for local in 1..kept {
             if has_orphan_at(self.scheme, &self.tiles, local) {
                 return true;
             }
