@@ -14,7 +14,7 @@ use Rattle.implicit_tiling.specs.Answer.{first, is_before, is_on_walk, fault_at,
 use Rattle.implicit_tiling.specs.Availability.{mask_from, subtree_root, tile_bit, is_available, available_at, is_subtree_root, is_reached, mask}
 use Rattle.implicit_tiling.specs.Text.{tile_line, text_of, answer_text, line, coordinates, contents_from, end_line}
 use Rattle.implicit_tiling.specs.Files.{Files, file}
-use Rattle.implicit_tileset.specs.Scene.{scene_of, subtree_name}
+use Rattle.implicit_tileset.specs.Scene.{plain_scene_of, subtree_name}
 use Rattle.implicit_tileset.specs.Tileset.{is_plain, is_quad}
 use Rattle.implicit_tileset.specs.Subtree.{Constants, bits_of, constants_of, outcome_from}
 use Rattle.commands.specs.Plain.{first_name, plain_line, plain_tiles, plain_text}
@@ -189,16 +189,16 @@ plain_scheme Oct a b c h = absurd (false≢true h)
 -- over files of a plain layout, with a plain file of the root's subtree
 pub plain_text_is : (files : Files) (layout : Layout) (plan : Plan) (bytes : List ℕ) (c : Constants) → is_plain layout ≡ true → plan.region.level < layout.levels
     → file (subtree_name layout root) files ≡ Some bytes → constants_of layout bytes ≡ Some c
-    → text_of (scene_of files layout) (Ok plan) ≡ plain_text layout.contents c.content (plain_tiles c.tiles plan.region)
+    → text_of (plain_scene_of files layout) (Ok plan) ≡ plain_text layout.contents c.content (plain_tiles c.tiles plan.region)
 plain_text_is files layout plan bytes c plain low found constants =
     let parts = and_parts _ _ plain in
     let more = and_parts _ _ parts.0 in
-    let known : (scene_of files layout).outcome root ≡ good (bits_of c) =
+    let known : (plain_scene_of files layout).outcome root ≡ good (bits_of c) =
     ap (λ b. outcome_from (option_and_then (constants_of layout) b)) found ∙ ap outcome_from constants in
-    let k : IsConstant (scene_of files layout) c = record {
+    let k : IsConstant (plain_scene_of files layout) c = record {
       quad = plain_scheme layout.scheme _ _ _ plain;
       one_subtree = leb-true _ _ more.1;
       low = leb-true _ _ (and_parts _ _ more.0).1;
       known = known;
     } in
-    text_is (scene_of files layout) c plan k low (leb-true _ _ parts.1)
+    text_is (plain_scene_of files layout) c plan k low (leb-true _ _ parts.1)

@@ -18,7 +18,7 @@ use Rattle.implicit_tiling.specs.declared.Scheme.TheVariants.{Quad}
 use Rattle.implicit_tiling.specs.Tile.{root}
 use Rattle.implicit_tiling.specs.Template.{filled}
 use Rattle.implicit_tileset.specs.Tileset.{is_plain, layout_of}
-use Rattle.implicit_tileset.specs.Scene.{subtree_name, scene_of, layout_in}
+use Rattle.implicit_tileset.specs.Scene.{subtree_name, plain_scene_of, layout_in}
 use Rattle.commands.proofs.Constants.{plain_scheme, plain_text_is}
 use Rattle.commands.specs.declared.status.Status.TheVariants.{NotYet, BadLayout}
 use Rattle.commands.specs.Status.{layout_wanted, plain_layout, constants_wanted, plain_constants, plan_seen, GivesText, Wanted}
@@ -68,7 +68,7 @@ bytes_of layout (Some bytes) c is = (bytes, refl, constants_found (constants_of 
 
 pub told_text : (told : Option Files) (layout : Layout) (region : Region) (c : Constants) (before now : Option (List ℕ)) → IsTrue (is_plain layout) → region.level < layout.levels
     → IfSome told (λ all. constants_wanted layout (file (subtree_name layout root) all) ≡ Ok c) → Appends before now (plain_text layout.contents c.content (plain_tiles c.tiles region))
-    → IfSome told (λ all. Appends before now (text_of (scene_of all layout) (plan_seen layout.scheme (Ok region))))
+    → IfSome told (λ all. Appends before now (text_of (plain_scene_of all layout) (plan_seen layout.scheme (Ok region))))
 told_text told layout region c before now plain low h given =
     of_told told _ _ (λ all is.
     let bytes = bytes_of layout (file (subtree_name layout root) all) c is in
@@ -92,8 +92,8 @@ layout_is (Some bytes) layout is = layout_found (layout_of bytes) layout (after_
 
 pub told_gives : (told : Option Files) (layout : Layout) (line : Option Line) (plan : Result Plan ℕ) (before now : Option (List ℕ))
     → IfSome told (λ all. layout_wanted (file (codes "tileset.json") all) ≡ Ok layout) → plan ≡ plan_of_line layout.scheme layout.levels line
-    → IfSome told (λ all. Appends before now (text_of (scene_of all layout) plan)) → IfSome told (λ all. GivesText all line before now)
+    → IfSome told (λ all. Appends before now (text_of (plain_scene_of all layout) plan)) → IfSome told (λ all. GivesText all line before now)
 told_gives None layout line plan before now found is given = tt
 told_gives (Some all) layout line plan before now found is given =
     let here : layout_in all ≡ Ok layout = layout_is (file (codes "tileset.json") all) layout found in
-    rw here (subst (λ p. Appends before now (text_of (scene_of all layout) p)) is given)
+    rw here (subst (λ p. Appends before now (text_of (plain_scene_of all layout) p)) is given)

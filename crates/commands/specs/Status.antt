@@ -8,7 +8,7 @@ use Rattle.implicit_tiling.specs.Scene.{Layout}
 use Rattle.implicit_tiling.specs.Request.{Line, plan_of_line}
 use Rattle.implicit_tileset.specs.Tileset.{layout_of, is_plain}
 use Rattle.implicit_tileset.specs.Subtree.{Constants, constants_of}
-use Rattle.implicit_tileset.specs.Scene.{subtree_name, layout_in, line_text}
+use Rattle.implicit_tileset.specs.Scene.{subtree_name, layout_in, plain_line_text}
 use Rattle.std.specs.Io.KnownBytes.{Appends, Keeps}
 use Rattle.commands.specs.Output.{GivesFront}
 use Rattle.commands.specs.declared.status.Status.{Status}
@@ -105,7 +105,7 @@ status_wanted files (Some line) = status_over files (Some line) (layout_wanted (
 
 -- the text of the line was given, and nothing else
 abbrev pub GivesTextOver : Files → Option Line → Option (List ℕ) → Option (List ℕ) → Result Layout ℕ → Type 0
-GivesTextOver files line before now (Ok layout) = Appends before now (line_text files layout line)
+GivesTextOver files line before now (Ok layout) = Appends before now (plain_line_text files layout line)
 GivesTextOver files line before now (Err n) = ⊥
 
 abbrev pub GivesText : Files → Option Line → Option (List ℕ) → Option (List ℕ) → Type 0
@@ -126,7 +126,7 @@ IsBeforeWriting Memory = ⊥
 
 -- what was given is some front of the text of the line
 abbrev pub GivesFrontOver : Files → Option Line → Option (List ℕ) → Option (List ℕ) → Result Layout ℕ → Type 0
-GivesFrontOver files line before now (Ok layout) = GivesFront before now (line_text files layout line)
+GivesFrontOver files line before now (Ok layout) = GivesFront before now (plain_line_text files layout line)
 GivesFrontOver files line before now (Err n) = Keeps before now
 
 abbrev pub GivesFrontOfText : Files → Option Line → Option (List ℕ) → Option (List ℕ) → Type 0

@@ -4,7 +4,7 @@ ghost use Rattle.implicit_tiling.specs.Files.{file};
 ghost use Rattle.implicit_tiling.specs.Tile.{root};
 ghost use Rattle.implicit_tiling.specs.Request.{asked, plan_of_line};
 ghost use Rattle.implicit_tileset.specs.Tileset.{is_plain};
-ghost use Rattle.implicit_tileset.specs.Scene.{subtree_name, scene_of};
+ghost use Rattle.implicit_tileset.specs.Scene.{subtree_name, plain_scene_of};
 ghost use Rattle.implicit_tiling.specs.Text.{text_of, refused_text};
 ghost use Rattle.scene_ports.specs.Counts.{Rose};
 ghost use Rattle.std.specs.Io.KnownBytes.{Appends, Keeps};
@@ -160,7 +160,7 @@ fn answer_region<S: FileSource, O: Outlet>(
     requires plain { IsTrue (is_plain layout.now) }
     requires level { region.now.level < layout.now.levels }
     ensures status { IfSome (S.told files.old) (λ all. AgreesStatus (status_of_plan all layout.now (plan_seen layout.now.scheme (Ok region.now))) result) }
-    ensures done { result ≡ Status.Done → IfSome (S.told files.old) (λ all. Appends (O.given out.old) (O.given out.new) (text_of (scene_of all layout.now) (plan_seen layout.now.scheme (Ok region.now)))) }
+    ensures done { result ≡ Status.Done → IfSome (S.told files.old) (λ all. Appends (O.given out.old) (O.given out.new) (text_of (plain_scene_of all layout.now) (plan_seen layout.now.scheme (Ok region.now)))) }
     ensures nothing { IsBeforeWriting result → Keeps (O.given out.old) (O.given out.new) }
     ensures not_usage { result ≢ Status.Usage }
     ensures read_fault { result ≡ Status.ReadFault → Rose (S.faults files.old) (S.faults files.new) }

@@ -6,7 +6,14 @@ use Rattle.implicit_tiling.specs.declared.Scheme.TheVariants.{Quad, Oct}
 use Rattle.implicit_tiling.specs.Scene.{Scene, good, bad}
 use Rattle.implicit_tiling.specs.Tile.{index}
 use Rattle.implicit_tiling.specs.Request.{line_of, plan_of_line}
-use Rattle.implicit_tiling.specs.Text.{line, text_of}
+use Rattle.std.proofs.Common.{List}
+use Rattle.implicit_tiling.specs.Tile.{Tile}
+use Rattle.implicit_tiling.specs.Region.{Region}
+use Rattle.implicit_tiling.specs.Answer.{answer}
+use Rattle.implicit_tiling.specs.Checked.{checked}
+use Rattle.implicit_tiling.specs.Code.{word}
+use Rattle.implicit_tiling.specs.Steps.{Step, steps}
+use Rattle.implicit_tiling.specs.Text.{line, text_of, checked_text}
 
 -- two levels in one subtree, each tile there with its content
 two_levels : Scene
@@ -67,3 +74,34 @@ index_quad = refl
 
 index_oct : index Oct (record { level = 2; x = 1; y = 2; z = 3 }) ≡ 53
 index_oct = refl
+
+-- the steps of a walk, joined, are its answer
+tiles_of_steps : List Step → List Tile
+tiles_of_steps [] = []
+tiles_of_steps (step ∷ steps) = step.tiles ++ tiles_of_steps steps
+
+region_of_two : Region
+region_of_two = record { level = 1; lo = 0 ∷ 0 ∷ 0 ∷ []; hi = 1 ∷ 1 ∷ 0 ∷ [] }
+
+joined : tiles_of_steps (steps two_levels region_of_two) ≡ (answer two_levels region_of_two).tiles
+unfolding two_levels tiles_of_steps region_of_two
+joined = refl
+
+region_of_four : Region
+region_of_four = record { level = 3; lo = 0 ∷ 0 ∷ 0 ∷ []; hi = 7 ∷ 7 ∷ 0 ∷ [] }
+
+joined_before_a_fault : tiles_of_steps (steps (corner (λ i. i == 0)) region_of_four) ≡ (answer (corner (λ i. i == 0)) region_of_four).tiles
+unfolding corner tiles_of_steps region_of_four
+joined_before_a_fault = refl
+
+-- four roots are reached below the root, and none of their files is there
+check_of_corner : checked_text Quad (checked (corner (λ i. nat_lt i 4))) ≡
+    line (codes "fault" ∷ codes "1" ∷ codes "2" ∷ codes "0" ∷ codes "0" ∷ []) ++ (line (codes "fault" ∷ codes "1" ∷ codes "2" ∷ codes "1" ∷ codes "0" ∷ [])
+    ++ (line (codes "fault" ∷ codes "1" ∷ codes "2" ∷ codes "0" ∷ codes "1" ∷ []) ++ (line (codes "fault" ∷ codes "1" ∷ codes "2" ∷ codes "1" ∷ codes "1" ∷ [])
+    ++ line (codes "end" ∷ codes "checked" ∷ codes "5" ∷ codes "4" ∷ []))))
+unfolding digits corner
+check_of_corner = refl
+
+-- a tile word and its parts
+word_of_corner : word Quad (record { level = 1; x = 1; y = 1; z = 0 }) 1 ≡ 578712552117108739
+word_of_corner = refl

@@ -8,6 +8,9 @@ pub mod Scene
 pub mod Availability
 pub mod Subtree
 pub mod Answer
+pub mod Checked
 pub mod Code
+pub mod Nodes
+pub mod Steps
 pub mod Request
 pub mod Text

@@ -1,5 +1,5 @@
 -- The text of an answer: its lines, with TAB between the parts and LF at the end (this project's own).
-use Rattle.std.specs.Prelude.{ℕ, ◌+◌, ◌%◌, ◌/◌, ◌^◌, ◌==◌, List, [], ◌∷◌, ◌++◌, length, codes, Result, Ok, Err, if◌then◌else◌}
+use Rattle.std.specs.Prelude.{ℕ, ◌+◌, ◌%◌, ◌/◌, ◌^◌, ◌==◌, List, [], ◌∷◌, ◌++◌, length, codes, Bool, true, false, Result, Ok, Err, if◌then◌else◌}
 use Rattle.std.specs.List.{flat_map, join_with_byte}
 use Rattle.std.specs.Fmt.{decimal}
 use Rattle.implicit_tiling.specs.declared.Scheme.{Scheme}
@@ -10,6 +10,8 @@ use Rattle.implicit_tiling.specs.Template.{filled}
 use Rattle.implicit_tiling.specs.Scene.{Layout, Scene}
 use Rattle.implicit_tiling.specs.Availability.{mask}
 use Rattle.implicit_tiling.specs.Code.{word_tile, word_mask}
+use Rattle.implicit_tiling.specs.Steps.{StepEnd, partial, ended}
+use Rattle.implicit_tiling.specs.Checked.{Checked}
 use Rattle.implicit_tiling.specs.Answer.{End, complete, too_many, fault, Answer, answer}
 
 abbrev pub line : List (List ℕ) → List ℕ
@@ -42,8 +44,13 @@ answer_text s a = flat_map (λ t. tile_line s.layout t (mask s t)) a.tiles ++ en
 abbrev pub word_line : Layout → ℕ → List ℕ
 word_line layout w = tile_line layout (word_tile layout.scheme w) (word_mask w)
 
-abbrev pub words_text : Layout → List ℕ → End → List ℕ
-words_text layout words end = flat_map (word_line layout) words ++ end_line layout.scheme (length words) end
+-- the end line of a walk that goes on, or has ended
+abbrev pub step_end_line : Scheme → ℕ → StepEnd → List ℕ
+step_end_line scheme n partial = line (codes "end" ∷ codes "partial" ∷ decimal n ∷ [])
+step_end_line scheme n (ended end) = end_line scheme n end
+
+abbrev pub words_text : Layout → List ℕ → StepEnd → List ℕ
+words_text layout words end = flat_map (word_line layout) words ++ step_end_line layout.scheme (length words) end
 
 abbrev pub refused_text : ℕ → List ℕ
 refused_text k = line (codes "refused" ∷ decimal k ∷ [])
@@ -52,3 +59,14 @@ refused_text k = line (codes "refused" ∷ decimal k ∷ [])
 abbrev pub text_of : Scene → Result Plan ℕ → List ℕ
 text_of s (Ok plan) = answer_text s (answer s plan.region)
 text_of s (Err k) = refused_text k
+
+-- the text of a check: a line for each fault, and an end line
+abbrev pub fault_line : Scheme → Tile × ℕ → List ℕ
+fault_line scheme found = line (codes "fault" ∷ decimal found.1 ∷ coordinates scheme found.0)
+
+abbrev pub check_end_line : Bool → ℕ → ℕ → List ℕ
+check_end_line true looked faults = line (codes "end" ∷ codes "too-many" ∷ decimal looked ∷ decimal faults ∷ [])
+check_end_line false looked faults = line (codes "end" ∷ codes "checked" ∷ decimal looked ∷ decimal faults ∷ [])
+
+abbrev pub checked_text : Scheme → Checked → List ℕ
+checked_text scheme c = flat_map (fault_line scheme) c.faults ++ check_end_line c.more (length c.looked) (length c.faults)

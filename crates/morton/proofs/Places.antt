@@ -1,56 +1,13 @@
 -- The bits of numbers that are put together place by place.
-use Rattle.std.proofs.Common.{◌≡◌, ℕ, zero, suc, ◌+◌, ◌*◌, ◌/◌, ◌%◌, ◌^◌, ◌<◌, ◌≤◌, refl, sym, ap, ◌∙◌, arith, map, sum, add-one, add-zero, add_comm, lit<, max, bit_or}
-use Rattle.std.specs.List.{range_with_len}
-use Rattle.std.proofs.Math.Nat.{pow-suc, pow-succ', mul_assoc, mod-eq_of_lt}
-use Rattle.std.proofs.lemmas.List.Sums.{sum_by_from}
+use Rattle.std.proofs.Common.{◌≡◌, ℕ, zero, suc, ◌+◌, ◌*◌, ◌/◌, ◌%◌, ◌^◌, ◌<◌, ◌≤◌, refl, sym, ap, ◌∙◌, arith, add-zero, add_comm, lit<, max, bit_or}
+use Rattle.std.proofs.Math.Nat.{mod-eq_of_lt}
 use Rattle.std.proofs.lemmas.Nat.Bits.{bit_at-suc, bit_at_or, bit_at-zero, same_from_bits_below}
 use Rattle.std.proofs.lemmas.Nat.{or_lt}
+use Rattle.tiling_laws.proofs.Index.{lowest_place, places_below}
 use Rattle.morton.proofs.Steps.{down_bit}
 use Rattle.implicit_tiling.specs.declared.Scheme.{Scheme}
 use Rattle.implicit_tiling.specs.declared.Scheme.TheVariants.{Quad, Oct}
-use Rattle.implicit_tiling.specs.Tile.{axes, branching, bit, depth_of, place_of, interleaved}
-
--- ---- the lowest place, and the others
-
--- a sum over the places from a + 1 on, as N times one over the places from a on
-sum_shifted : (n : ℕ) (f g : ℕ → ℕ) → ((j : ℕ) → f (j + 1) ≡ n * g j) → (a k : ℕ) → sum (map f (range_with_len (a + 1) k)) ≡ n * sum (map g (range_with_len a k))
-sum_shifted n f g each a zero = omega arith
-sum_shifted n f g each a (suc k) =
-    let left = sum_by_from (λ (x : ℕ). x) (0 + f (a + 1)) (map f (range_with_len (a + 1 + 1) k)) in
-    let right = sum_by_from (λ (x : ℕ). x) (0 + g a) (map g (range_with_len (a + 1) k)) in
-    let rest = sum_shifted n f g each (a + 1) k in
-    let step : 0 + f (a + 1) + sum (map f (range_with_len (a + 1 + 1) k)) ≡ n * (0 + g a + sum (map g (range_with_len (a + 1) k))) = omega (arith, each a, rest) in
-    left ∙ step ∙ ap (λ w. n * w) (sym right)
-
-bit_up : (j n : ℕ) → bit (j + 1) n ≡ bit j (n / 2)
-bit_up j n = ap (λ e. bit e n) (add-one j) ∙ bit_at-suc n j
-
-place_up : (scheme : Scheme) (x y z j : ℕ) → place_of scheme x y z (j + 1) ≡ place_of scheme (x / 2) (y / 2) (z / 2) j
-place_up scheme x y z j =
-    ap (λ b. b + 2 * bit (j + 1) y + 4 * depth_of scheme (bit (j + 1) z)) (bit_up j x)
-    ∙ ap (λ b. bit j (x / 2) + 2 * b + 4 * depth_of scheme (bit (j + 1) z)) (bit_up j y)
-    ∙ ap (λ b. bit j (x / 2) + 2 * bit j (y / 2) + 4 * depth_of scheme b) (bit_up j z)
-
-term_up : (scheme : Scheme) (x y z j : ℕ)
-    → branching scheme ^ (j + 1) * place_of scheme x y z (j + 1) ≡ branching scheme * (branching scheme ^ j * place_of scheme (x / 2) (y / 2) (z / 2) j)
-term_up scheme x y z j =
-    ap (λ p. branching scheme ^ (j + 1) * p) (place_up scheme x y z j)
-    ∙ ap (λ e. branching scheme ^ e * place_of scheme (x / 2) (y / 2) (z / 2) j) (add-one j)
-    ∙ ap (λ e. e * place_of scheme (x / 2) (y / 2) (z / 2) j) (pow-succ' (branching scheme) j)
-    ∙ mul_assoc (branching scheme) (branching scheme ^ j) (place_of scheme (x / 2) (y / 2) (z / 2) j)
-
-first_term : (scheme : Scheme) (p w : ℕ) → 0 + branching scheme ^ 0 * p + w ≡ p + w
-first_term Quad p w = omega arith
-first_term Oct p w = omega arith
-
-lowest_place : (scheme : Scheme) (k x y z : ℕ)
-    → interleaved scheme (suc k) x y z ≡ place_of scheme x y z 0 + branching scheme * interleaved scheme k (x / 2) (y / 2) (z / 2)
-lowest_place scheme k x y z =
-    let f : ℕ → ℕ = λ j. branching scheme ^ j * place_of scheme x y z j in
-    let g : ℕ → ℕ = λ j. branching scheme ^ j * place_of scheme (x / 2) (y / 2) (z / 2) j in
-    sum_by_from (λ (x : ℕ). x) (0 + f 0) (map f (range_with_len 1 k))
-    ∙ ap (λ w. 0 + f 0 + w) (sum_shifted (branching scheme) f g (term_up scheme x y z) 0 k)
-    ∙ first_term scheme (place_of scheme x y z 0) (branching scheme * interleaved scheme k (x / 2) (y / 2) (z / 2))
+use Rattle.implicit_tiling.specs.Tile.{axes, branching, bit, place_of, interleaved}
 
 -- ---- each bit
 
@@ -109,14 +66,6 @@ bit_of scheme (suc p) x y z (suc j) r h k =
     ∙ bit_of scheme p (x / 2) (y / 2) (z / 2) j r (omega arith) k
     ∙ of_half scheme x y z r j
 
--- ---- the greatest
-
-pub below : (scheme : Scheme) (places x y z : ℕ) → interleaved scheme places x y z < branching scheme ^ places
-below Quad zero x y z = lit< tt
-below Oct zero x y z = lit< tt
-below Quad (suc p) x y z = omega (arith, lowest_place Quad p x y z, below Quad p (x / 2) (y / 2) (z / 2), pow-suc 4 p)
-below Oct (suc p) x y z = omega (arith, lowest_place Oct p x y z, below Oct p (x / 2) (y / 2) (z / 2), pow-suc 8 p)
-
 -- ---- every bit below the last place
 
 within : (scheme : Scheme) (places i : ℕ) → i < axes scheme * places → i / axes scheme < places
@@ -139,7 +88,7 @@ bit_at_place scheme p x y z i h =
 
 below_bits : (scheme : Scheme) (places x y z : ℕ) → branching scheme ^ places ≡ 2 ^ (axes scheme * places)
     → interleaved scheme places x y z < 2 ^ (axes scheme * places)
-below_bits scheme p x y z width = omega (arith, below scheme p x y z, width)
+below_bits scheme p x y z width = omega (arith, places_below scheme p x y z, width)
 
 -- a number whose bits are those of the places is the interleaved one
 pub from_bits : (scheme : Scheme) (places x y z word : ℕ) → branching scheme ^ places ≡ 2 ^ (axes scheme * places) → word < 2 ^ (axes scheme * places)
@@ -188,7 +137,7 @@ pub of_two : (places x y a b : ℕ) → 4 ^ places ≡ 2 ^ (2 * places) → 4 ^ 
     → bit_or a (b * 2 % 2 ^ 64) ≡ interleaved Quad places x y 0
 of_two p x y a b width fits ea eb =
     let moved : b * 2 ≡ interleaved Quad p 0 y 0 = ap (λ n. n * 2) eb ∙ y_is_twice Quad p y in
-    let high : b * 2 % 2 ^ 64 ≡ interleaved Quad p 0 y 0 = mod-eq_of_lt (omega (arith, moved, fits, below Quad p 0 y 0)) ∙ moved in
+    let high : b * 2 % 2 ^ 64 ≡ interleaved Quad p 0 y 0 = mod-eq_of_lt (omega (arith, moved, fits, places_below Quad p 0 y 0)) ∙ moved in
     ap (λ n. bit_or n (b * 2 % 2 ^ 64)) ea ∙ ap (bit_or (interleaved Quad p x 0 0)) high
     ∙ either Quad p x 0 0 0 y 0 x y 0 width (x_and_y Quad x y)
 
@@ -197,9 +146,9 @@ pub of_three : (places x y z a b c : ℕ) → 8 ^ places ≡ 2 ^ (3 * places) �
     → bit_or (bit_or a (b * 2 % 2 ^ 64)) (c * 4 % 2 ^ 64) ≡ interleaved Oct places x y z
 of_three p x y z a b c width fits ea eb ec =
     let moved : b * 2 ≡ interleaved Oct p 0 y 0 = ap (λ n. n * 2) eb ∙ y_is_twice Oct p y in
-    let high : b * 2 % 2 ^ 64 ≡ interleaved Oct p 0 y 0 = mod-eq_of_lt (omega (arith, moved, fits, below Oct p 0 y 0)) ∙ moved in
+    let high : b * 2 % 2 ^ 64 ≡ interleaved Oct p 0 y 0 = mod-eq_of_lt (omega (arith, moved, fits, places_below Oct p 0 y 0)) ∙ moved in
     let moved_z : c * 4 ≡ interleaved Oct p 0 0 z = ap (λ n. n * 4) ec ∙ z_is_fourfold p z in
-    let highest : c * 4 % 2 ^ 64 ≡ interleaved Oct p 0 0 z = mod-eq_of_lt (omega (arith, moved_z, fits, below Oct p 0 0 z)) ∙ moved_z in
+    let highest : c * 4 % 2 ^ 64 ≡ interleaved Oct p 0 0 z = mod-eq_of_lt (omega (arith, moved_z, fits, places_below Oct p 0 0 z)) ∙ moved_z in
     ap (λ n. bit_or (bit_or n (b * 2 % 2 ^ 64)) (c * 4 % 2 ^ 64)) ea
     ∙ ap (λ n. bit_or (bit_or (interleaved Oct p x 0 0) n) (c * 4 % 2 ^ 64)) high
     ∙ ap (λ n. bit_or n (c * 4 % 2 ^ 64)) (either Oct p x 0 0 0 y 0 x y 0 width (x_and_y Oct x y))

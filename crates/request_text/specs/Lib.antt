@@ -1,1 +1,4 @@
+pub mod Ends
+pub mod Fields
+pub mod Laws
 pub mod Lines

@@ -3,6 +3,9 @@
 //! of an answer and nothing else.
 #![tactic(auto)]
 
+pub mod laws;
 mod line;
+mod text;
 
 pub use line::{Refusal, is_coordinates, is_number, parse_line};
+pub use text::{write_answer, write_refusal};

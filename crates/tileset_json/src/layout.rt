@@ -1,71 +1,103 @@
-// Reading the layout of a tileset from the bytes of `tileset.json`.
-ghost use Rattle.std.specs.Prelude.{◌≡◌, codes, option_and_then};
+// Layouts, and reading one from the bytes of `tileset.json`.
+ghost use Rattle.std.specs.Prelude.{◌≡◌, codes, option_and_then, IfOk};
 ghost use Rattle.serde_json.specs.Find.{get};
 ghost use Rattle.serde_json.specs.View.{view};
-ghost use Rattle.implicit_tileset.specs.Tileset.{layout_of, layout_of_value, template_of};
-ghost use Rattle.tileset_json.specs.Reading.{Answers, Finds, FindsItems, plain_levels, plain_contents};
+ghost use Rattle.implicit_tileset.specs.Json.{number_at as number_in, text_at as text_in};
+ghost use Rattle.implicit_tileset.specs.Tileset.{layout_of, layout_of_value, template_of, scheme_named, from_one_to, most_levels as levels_limit, most_subtree_levels as subtree_levels_limit};
+ghost use Rattle.tileset_json.specs.Reading.{Answers};
 
-use crate::template::Template;
+use crate::contents::{read_contents, read_template};
+use crate::fault::{LayoutFault, TilesetFault};
 use implicit_tileset::{JsonFault, has_member, number_at, object_at, read_value, text_at};
 use serde_json::Value;
-use std::alloc::Global;
+use std::alloc::{AllocError, Global};
 use std::marker::Model;
 use tile_coords::Scheme;
+use uri_template::Template;
 
-/// The scheme, the levels of a subtree and in all, and the templates of subtrees and contents.
-#[derive(Drop)]
+/// The most contents of a layout.
+pub const MOST_CONTENTS: usize = 8;
+
+/// What `tileset.json` says of the implicit tiles (OGC 22-025r4, implicit tiling: implicit root tile, subtrees).
+#[derive(Debug, Drop)]
 pub struct Layout {
     pub scheme: Scheme,
+    /// The levels of a subtree: 1 to 10 in a quadtree, 1 to 7 in an octree.
     pub subtree_levels: u32,
+    /// The levels in all: 1 to 26 in a quadtree, 1 to 18 in an octree.
     pub levels: u32,
+    /// The names of subtree files, filled with the subtree's root tile.
     pub subtree: Template,
+    /// The names of contents, at most 8.
     pub contents: Vec<Template>,
 }
 
 impl Model for Layout {
     ghost use Rattle.implicit_tiling.specs.Scene.{Layout as layout};
+    ghost use Rattle.tileset_json.specs.Limits.{IsWithinLimits};
 
     ghost Value = { layout };
 
     ghost view = { λ l. record { scheme = l.scheme; subtree_levels = l.subtree_levels; levels = l.levels; subtree = l.subtree; contents = l.contents.items } };
+
+    ghost invariant = { λ l. IsWithinLimits (record { scheme = l.scheme; subtree_levels = l.subtree_levels; levels = l.levels; subtree = l.subtree; contents = l.contents.items }) };
 }
 
-#[derive(Clone, Copy, Debug, PartialEq, Eq)]
-pub enum LayoutFault {
-    Number(u64),
-    NotYet,
-    Memory,
+/// The most levels of a scheme.
+pub fn most_levels(scheme: Scheme) -> u32
+    ensures { result ≡ levels_limit scheme }
+{
+    match scheme {
+        Scheme::Quad => 26,
+        Scheme::Oct => 18,
+    }
+}
+
+/// The most levels of a subtree of a scheme.
+pub fn most_subtree_levels(scheme: Scheme) -> u32
+    ensures { result ≡ subtree_levels_limit scheme }
+{
+    match scheme {
+        Scheme::Quad => 10,
+        Scheme::Oct => 7,
+    }
 }
 
 impl Layout {
+    /// The layout that the bytes of `tileset.json` state. `Number` has the first fault of the table that holds,
+    /// from 3 on. A member of one name that stands twice counts as `serde_json` keeps it, so the last does.
     pub fn read(alloc: Global, bytes: &[u8]) -> Result<Layout, LayoutFault>
         ensures { Answers (layout_of bytes.now) result }
     {
         match read_value(alloc, bytes) {
             Ok(value) => read_layout(alloc, &value),
-            Err(JsonFault::NotJson) => Err(LayoutFault::Number(3)),
+            Err(JsonFault::NotJson) => Err(LayoutFault::from(TilesetFault::BadJson)),
             Err(JsonFault::Memory) => Err(LayoutFault::Memory),
         }
     }
 }
 
-// The layout that a value states, where it is plain.
+// The layout that a value states: one step for each row of the table, in its order.
 fn read_layout(alloc: Global, value: &Value) -> Result<Layout, LayoutFault>
     ensures { Answers (layout_of_value (view value.now)) result }
 {
-    let Some(tile) = object_at(value, "root") else {
-        return Err(LayoutFault::NotYet);
-    };
-    let Some(implicit) = object_at(tile, "implicitTiling") else {
-        return Err(LayoutFault::NotYet);
-    };
-    let Some((subtree_levels, levels)) = quadtree_levels(implicit) else {
-        return Err(LayoutFault::NotYet);
-    };
-    let subtree = read_subtrees(alloc, implicit)?;
-    let contents = read_contents(alloc, tile)?;
+    let tile = object_at(value, "root").ok_or(TilesetFault::NotObject)?;
+    let implicit = object_at(tile, "implicitTiling").ok_or(TilesetFault::NoImplicit)?;
+    let scheme = read_scheme(implicit).ok_or(TilesetFault::BadScheme)?;
+    let subtree_levels = count_at(implicit, "subtreeLevels", most_subtree_levels(scheme));
+    let subtree_levels = subtree_levels.ok_or(TilesetFault::BadSubtreeLevels)?;
+    let levels = count_at(implicit, "availableLevels", most_levels(scheme));
+    let levels = levels.ok_or(TilesetFault::BadAvailableLevels)?;
+    let subtree = read_subtree(alloc, implicit)?.ok_or(TilesetFault::BadSubtreeTemplate)?;
+    if has_member(tile, "content") && has_member(tile, "contents") {
+        return Err(LayoutFault::from(TilesetFault::BothContents));
+    }
+    let contents = read_contents(alloc, tile)?.ok_or(TilesetFault::BadContent)?;
+    if contents.len() > MOST_CONTENTS {
+        return Err(LayoutFault::from(TilesetFault::TooManyContents));
+    }
     Ok(Layout {
-        scheme: Scheme::Quad,
+        scheme,
         subtree_levels,
         levels,
         subtree,
@@ -73,79 +105,32 @@ fn read_layout(alloc: Global, value: &Value) -> Result<Layout, LayoutFault>
     })
 }
 
-// The levels of a plain quadtree.
-fn quadtree_levels(implicit: &Value) -> Option<(u32, u32)>
-    ensures { result ≡ plain_levels (view implicit.now) }
+fn read_scheme(implicit: &Value) -> Option<Scheme>
+    ensures { result ≡ option_and_then scheme_named (text_in (codes "subdivisionScheme") (view implicit.now)) }
 {
-    let name = text_at(implicit, "subdivisionScheme")?;
-    if name != "QUADTREE" {
-        return None;
-    }
-    let subtree_levels = number_at(implicit, "subtreeLevels")?;
-    let levels = number_at(implicit, "availableLevels")?;
-    if levels < 1 || levels > 8 || subtree_levels < levels || subtree_levels > 10 {
-        return None;
-    }
-    Some((subtree_levels as u32, levels as u32))
-}
-
-// The template that an object has as its `uri`.
-fn read_template(alloc: Global, value: &Value) -> Result<Template, LayoutFault>
-    ensures { Finds (template_of (view value.now)) result }
-{
-    let Some(text) = text_at(value, "uri") else {
-        return Err(LayoutFault::NotYet);
-    };
-    let Ok(text) = String::from_str(alloc, text) else {
-        return Err(LayoutFault::Memory);
-    };
-    match Template::new(text) {
-        Ok(template) => Ok(template),
-        Err(_) => Err(LayoutFault::NotYet),
+    match text_at(implicit, "subdivisionScheme")? {
+        "QUADTREE" => Some(Scheme::Quad),
+        "OCTREE" => Some(Scheme::Oct),
+        _ => None,
     }
 }
 
-// The template of subtrees.
-fn read_subtrees(alloc: Global, implicit: &Value) -> Result<Template, LayoutFault>
-    ensures { Finds (option_and_then template_of (get (codes "subtrees") (view implicit.now))) result }
+// A member that is a whole number from 1 to `most`.
+fn count_at(implicit: &Value, name: &str, most: u32) -> Option<u32>
+    ensures { result ≡ from_one_to most (number_in name.now (view implicit.now)) }
+{
+    let count = number_at(implicit, name)?;
+    if count < 1 || count > most as u64 {
+        return None;
+    }
+    Some(count as u32)
+}
+
+fn read_subtree(alloc: Global, implicit: &Value) -> Result<Option<Template>, AllocError>
+    ensures { IfOk result (λ found. found ≡ option_and_then template_of (get (codes "subtrees") (view implicit.now))) }
 {
     match implicit.get("subtrees") {
-        Some(value) => read_template(alloc, value),
-        None => Err(LayoutFault::NotYet),
-    }
-}
-
-// The content templates, where there is at most one.
-fn read_contents(alloc: Global, tile: &Value) -> Result<Vec<Template>, LayoutFault>
-    ensures { FindsItems (plain_contents (view tile.now)) result }
-{
-    let mut contents = Vec::new(alloc);
-    let first = match tile.get("content") {
-        Some(content) => {
-            if has_member(tile, "contents") {
-                return Err(LayoutFault::NotYet);
-            }
-            content
-        }
-        None => {
-            let Some(list) = tile.get("contents") else {
-                return Ok(contents);
-            };
-            let Some(list) = list.as_array() else {
-                return Err(LayoutFault::NotYet);
-            };
-            if list.is_empty() {
-                return Ok(contents);
-            }
-            if list.len() > 1 {
-                return Err(LayoutFault::NotYet);
-            }
-            &list[0]
-        }
-    };
-    let template = read_template(alloc, first)?;
-    match contents.push(template) {
-        Ok(()) => Ok(contents),
-        Err(_) => Err(LayoutFault::Memory),
+        Some(subtrees) => read_template(alloc, subtrees),
+        None => Ok(None),
     }
 }

@@ -2,12 +2,12 @@
 use Rattle.std.proofs.Common.{◌≡◌, ℕ, zero, suc, ◌+◌, ◌-◌, ◌*◌, ◌/◌, ◌%◌, ◌^◌, ◌<◌, ◌≤◌, refl, sym, ap, ◌∙◌, arith, add-zero, lit<}
 use Rattle.std.specs.Prelude.{◌↔◌}
 use Rattle.std.proofs.Math.Nat.{pow-suc, pow-succ', pow-le-pow_right, div-div-eq-div-mul, div-eq_of_lt-le, div-add-mod}
-use Rattle.std.proofs.lemmas.Nat.{shr_below, shr_le, mod_below}
+use Rattle.std.proofs.lemmas.Nat.{shr_below, shr-shr, shr_le, mod_below}
 use Rattle.implicit_tiling.specs.declared.Scheme.{Scheme}
 use Rattle.implicit_tiling.specs.declared.Scheme.TheVariants.{Quad, Oct}
-use Rattle.implicit_tiling.specs.Tile.{Tile, IsTile, branching, depth_of, place_of, interleaved, index, ancestor}
-use Rattle.tiling_laws.proofs.Index.{lowest_place, lowest_fits}
-use Rattle.tiling_laws.proofs.TileAt.{tile_from_index, div_of_places}
+use Rattle.implicit_tiling.specs.Tile.{Tile, IsTile, branching, depth_of, place_of, interleaved, index, ancestor, parent, child}
+use Rattle.tiling_laws.proofs.Index.{lowest_place, lowest_fits, child_index}
+use Rattle.tiling_laws.proofs.TileAt.{tile_from_index, div_of_places, same_tile, last_below, whole, child_is_tile}
 
 -- an ancestor of a tile is a tile
 up_fits : (x level k : ℕ) → x < 2 ^ level → x / 2 ^ k < 2 ^ (level - k)
@@ -84,3 +84,25 @@ descendants scheme k t u tile above level =
       λ same. run.0 (sym up ∙ ap (index scheme) same),
       λ within. tile_from_index scheme (ancestor k t) u (ancestor_is_tile scheme k t tile) above (omega arith) (up ∙ run.1 within),
     )
+
+by_first_power : (scheme : Scheme) → branching scheme ^ 1 ≡ branching scheme
+by_first_power Quad = refl
+by_first_power Oct = refl
+
+-- a tile is the parent of its children, and the child of its parent that the last place of its index numbers
+pub parent_of_child : (t : Tile) (n : ℕ) → parent (child t n) ≡ t
+parent_of_child t n = same_tile (parent (child t n)) t (omega arith) (omega arith) (omega arith) (omega arith)
+
+pub ancestor_of_ancestor : (j k : ℕ) (t : Tile) → ancestor j (ancestor k t) ≡ ancestor (k + j) t
+ancestor_of_ancestor j k t =
+    same_tile (ancestor j (ancestor k t)) (ancestor (k + j) t) (omega arith) (shr-shr t.x k j) (shr-shr t.y k j) (shr-shr t.z k j)
+
+pub child_of_parent : (scheme : Scheme) (t : Tile) → IsTile scheme t → 0 < t.level → child (parent t) (index scheme t % branching scheme) ≡ t
+child_of_parent scheme t tile below =
+    let up : t.level ≡ suc (t.level - 1) = omega arith in
+    let number = last_below scheme (index scheme t) in
+    let above : index scheme (parent t) ≡ index scheme t / branching scheme = ancestor_index scheme 1 t (omega arith) ∙ ap (λ p. index scheme t / p) (by_first_power scheme) in
+    let same : index scheme (child (parent t) (index scheme t % branching scheme)) ≡ index scheme t =
+    child_index scheme (parent t) (index scheme t % branching scheme) number ∙ ap (λ w. branching scheme * w + index scheme t % branching scheme) above ∙ whole scheme (index scheme t) in
+    tile_from_index scheme (child (parent t) (index scheme t % branching scheme)) t
+    (child_is_tile scheme (parent t) (index scheme t % branching scheme) number (ancestor_is_tile scheme 1 t tile)) tile (omega arith) same

@@ -3,3 +3,7 @@ pub mod TileAt
 pub mod Ancestors
 pub mod Nodes
 pub mod Order
+pub mod Subtrees
+pub mod Available
+pub mod Walk
+pub mod Places

@@ -31,7 +31,7 @@ root_is_tile Quad = record { x_fits = lit< tt; y_fits = lit< tt; z_fits = lit< t
 root_is_tile Oct = record { x_fits = lit< tt; y_fits = lit< tt; z_fits = lit< tt; flat = refl }
 
 -- the last place of an index, and what stands before it
-last_below : (scheme : Scheme) (i : ℕ) → i % branching scheme < branching scheme
+pub last_below : (scheme : Scheme) (i : ℕ) → i % branching scheme < branching scheme
 last_below Quad i = omega arith
 last_below Oct i = omega arith
 
@@ -39,7 +39,7 @@ rest_below : (scheme : Scheme) (level i : ℕ) → i < branching scheme ^ suc le
 rest_below Quad level i h = omega (arith, pow-suc 4 level)
 rest_below Oct level i h = omega (arith, pow-suc 8 level)
 
-whole : (scheme : Scheme) (i : ℕ) → branching scheme * (i / branching scheme) + i % branching scheme ≡ i
+pub whole : (scheme : Scheme) (i : ℕ) → branching scheme * (i / branching scheme) + i % branching scheme ≡ i
 whole Quad i = omega arith
 whole Oct i = omega arith
 

@@ -1,0 +1,18 @@
+//! Times of the inner loops of the layers. Checksums go to standard output, and times to standard error, where
+//! nothing compares them. `bench/run` times the same loops in plain Rust beside them.
+#![tactic(auto)]
+
+use std::io;
+use std::time::Duration;
+
+mod morton_loops;
+
+fn main(rt: HostRuntime) -> io::Result<()> {
+    morton_loops::run(&rt)
+}
+
+// One line of each: the checksum of a loop, and the time that it took.
+fn report(rt: &(impl Print + Eprint), name: &str, checksum: u64, time: Duration) -> io::Result<()> {
+    println!(rt; "{name} {checksum}")?;
+    eprintln!(rt; "{name} {}", time.as_micros())
+}

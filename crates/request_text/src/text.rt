@@ -1,0 +1,210 @@
+// The texts of answers and of refused lines.
+ghost use Rattle.std.specs.Prelude.{◌≡◌, ◌≤◌, ◌++◌, ◌∷◌, [], Err, OnOk, string_bytes, length};
+ghost use Rattle.std.specs.List.{flat_map, All};
+ghost use Rattle.std.specs.Fmt.{decimal};
+ghost use Rattle.std.specs.Io.KnownBytes.{Appends};
+ghost use Rattle.implicit_tiling.specs.Code.{IsWord, word_tile};
+ghost use Rattle.implicit_tiling.specs.Answer.{fault};
+ghost use Rattle.implicit_tiling.specs.Template.{filled};
+ghost use Rattle.implicit_tiling.specs.Text.{coordinates, contents_from, tile_line, word_line, words_text, end_line, step_end_line, refused_text};
+ghost use Rattle.tile_coords.specs.Ends.{end_seen};
+ghost use Rattle.scene_ports.specs.Counts.{Rose};
+ghost use Rattle.scene_ports.specs.Output.{GivesFront};
+ghost use Rattle.request_text.specs.Fields.{joined, after_tab};
+ghost use Rattle.request_text.specs.Ends.{HasWord};
+
+use availability::{WordTile, tile_of};
+use itoa::Buffer;
+use scene_ports::{GiveFault, Outlet, give_rest, give_when_full};
+use std::alloc::{AllocError, Global};
+use tile_coords::{Scheme, Tile, WalkEnd, Word};
+use tileset_json::Layout;
+use uri_template::Template;
+
+/// Gives the text of an answer: a line for each word, and the end line, in pieces of up to 65,536 bytes. After an `Err`
+/// some front of the text was given.
+pub fn write_answer<O: Outlet>(
+    alloc: Global,
+    layout: &Layout,
+    words: &[Word],
+    end: WalkEnd,
+    out: &mut O,
+) -> Result<(), GiveFault>
+    requires words { All (IsWord layout.now.scheme) words.now }
+    requires root { HasWord layout.now.scheme end }
+    ensures given { OnOk result (Appends (O.given out.old) (O.given out.new) (words_text layout.now words.now (end_seen layout.now.scheme end))) }
+    ensures front { GivesFront (O.given out.old) (O.given out.new) (words_text layout.now words.now (end_seen layout.now.scheme end)) }
+    ensures failed { result ≡ Err GiveFault.WriteFault → Rose (O.faults out.old) (O.faults out.new) }
+    ensures later { O.faults out.old ≤ O.faults out.new }
+    ensures left_aside { O.left_aside out.new ≡ O.left_aside out.old }
+    ensures taken_aside { O.taken_aside out.new ≡ O.taken_aside out.old }
+{
+    let mut piece = String::new(alloc);
+    for word in words {
+        push_word_line(layout, *word, &mut piece)?;
+        give_when_full(out, &mut piece)?;
+    }
+    push_end_line(layout.scheme, words.len(), end, &mut piece)?;
+    give_rest(out, &mut piece)
+}
+
+/// Gives the text of a refused line, whose refusal has this number. After an `Err` some front of the text was given.
+pub fn write_refusal<O: Outlet>(alloc: Global, number: u64, out: &mut O) -> Result<(), GiveFault>
+    ensures given { OnOk result (Appends (O.given out.old) (O.given out.new) (refused_text number)) }
+    ensures front { GivesFront (O.given out.old) (O.given out.new) (refused_text number) }
+    ensures failed { result ≡ Err GiveFault.WriteFault → Rose (O.faults out.old) (O.faults out.new) }
+    ensures later { O.faults out.old ≤ O.faults out.new }
+    ensures left_aside { O.left_aside out.new ≡ O.left_aside out.old }
+    ensures taken_aside { O.taken_aside out.new ≡ O.taken_aside out.old }
+{
+    let mut piece = String::new(alloc);
+    push_refusal(number, &mut piece)?;
+    give_rest(out, &mut piece)
+}
+
+fn push_refusal(number: u64, piece: &mut String) -> Result<(), AllocError>
+    ensures { OnOk result (string_bytes piece.new ≡ string_bytes piece.old ++ refused_text number) }
+{
+    piece.push_str("refused\t")?;
+    let mut digits = Buffer::new();
+    piece.push_str(digits.format(number))?;
+    piece.push('\n')
+}
+
+// Appends the line of a word.
+fn push_word_line(layout: &Layout, word: Word, piece: &mut String) -> Result<(), AllocError>
+    requires { IsWord layout.now.scheme word }
+    ensures { OnOk result (string_bytes piece.new ≡ string_bytes piece.old ++ word_line layout.now word) }
+{
+    let Some(WordTile { tile, mask }) = tile_of(layout.scheme, word) else {
+        unreachable!()
+    };
+    push_tile_line(layout, &tile, mask, piece)
+}
+
+// Appends the line of a tile with the contents of a mask.
+fn push_tile_line(
+    layout: &Layout,
+    tile: &Tile,
+    mask: u8,
+    piece: &mut String,
+) -> Result<(), AllocError>
+    ensures { OnOk result (string_bytes piece.new ≡ string_bytes piece.old ++ tile_line layout.now tile.now mask) }
+{
+    push_coordinates(layout.scheme, tile, piece)?;
+    push_contents(layout.scheme, &layout.contents, tile, mask, piece)?;
+    piece.push('\n')
+}
+
+// Appends the end line of so many tiles.
+fn push_end_line(
+    scheme: Scheme,
+    count: usize,
+    end: WalkEnd,
+    piece: &mut String,
+) -> Result<(), AllocError>
+    requires { HasWord scheme end }
+    ensures { OnOk result (string_bytes piece.new ≡ string_bytes piece.old ++ step_end_line scheme count (end_seen scheme end)) }
+{
+    match end {
+        WalkEnd::Partial => push_count("end\tpartial\t", count, piece),
+        WalkEnd::Complete => push_count("end\tcomplete\t", count, piece),
+        WalkEnd::TooMany => push_count("end\ttoo-many\t", count, piece),
+        WalkEnd::Fault { root, number } => push_fault(scheme, count, root, number, piece),
+    }
+}
+
+// Appends a text, a number and LF.
+fn push_count(text: &str, count: usize, piece: &mut String) -> Result<(), AllocError>
+    ensures { OnOk result (string_bytes piece.new ≡ string_bytes piece.old ++ (text.now ++ (decimal count ++ 10 ∷ []))) }
+{
+    piece.push_str(text)?;
+    let mut digits = Buffer::new();
+    piece.push_str(digits.format(count))?;
+    piece.push('\n')
+}
+
+// Appends the end line of a walk that ended at the fault of a root.
+fn push_fault(
+    scheme: Scheme,
+    count: usize,
+    root: Word,
+    number: u64,
+    piece: &mut String,
+) -> Result<(), AllocError>
+    requires { IsWord scheme root }
+    ensures { OnOk result (string_bytes piece.new ≡ string_bytes piece.old ++ end_line scheme count (fault (word_tile scheme root) number)) }
+{
+    let Some(WordTile { tile, .. }) = tile_of(scheme, root) else {
+        unreachable!()
+    };
+    let mut digits = Buffer::new();
+    piece.push_str("end\tfault\t")?;
+    piece.push_str(digits.format(count))?;
+    piece.push('\t')?;
+    piece.push_str(digits.format(number))?;
+    piece.push('\t')?;
+    push_coordinates(scheme, &tile, piece)?;
+    piece.push('\n')
+}
+
+// Appends the level and the coordinates of a tile, joined by TAB.
+fn push_coordinates(scheme: Scheme, tile: &Tile, piece: &mut String) -> Result<(), AllocError>
+    ensures { OnOk result (string_bytes piece.new ≡ string_bytes piece.old ++ joined (coordinates scheme tile.now)) }
+{
+    push_number(tile.level, piece)?;
+    push_field(tile.x, piece)?;
+    push_field(tile.y, piece)?;
+    match scheme {
+        Scheme::Quad => Ok(()),
+        Scheme::Oct => push_field(tile.z, piece),
+    }
+}
+
+// Appends a number in decimal.
+fn push_number(number: u32, piece: &mut String) -> Result<(), AllocError>
+    ensures { OnOk result (string_bytes piece.new ≡ string_bytes piece.old ++ decimal number) }
+{
+    let mut digits = Buffer::new();
+    piece.push_str(digits.format(number))
+}
+
+// Appends a TAB and a number.
+fn push_field(number: u32, piece: &mut String) -> Result<(), AllocError>
+    ensures { OnOk result (string_bytes piece.new ≡ string_bytes piece.old ++ after_tab (decimal number)) }
+{
+    piece.push('\t')?;
+    push_number(number, piece)
+}
+
+// Appends, each after a TAB, the filled templates whose bit of the mask is 1.
+fn push_contents(
+    scheme: Scheme,
+    contents: &[Template],
+    tile: &Tile,
+    mask: u8,
+    piece: &mut String,
+) -> Result<(), AllocError>
+    requires { length contents.now ≤ 8 }
+    ensures { OnOk result (string_bytes piece.new ≡ string_bytes piece.old ++ flat_map after_tab (contents_from scheme tile.now mask 0 contents.now)) }
+{
+    for (content, template) in contents.iter().enumerate() {
+        if mask >> content & 1 == 1 {
+            push_content(scheme, template, tile, piece)?;
+        }
+    }
+    Ok(())
+}
+
+// Appends a TAB and a filled template.
+fn push_content(
+    scheme: Scheme,
+    template: &Template,
+    tile: &Tile,
+    piece: &mut String,
+) -> Result<(), AllocError>
+    ensures { OnOk result (string_bytes piece.new ≡ string_bytes piece.old ++ after_tab (filled scheme template.now tile.now)) }
+{
+    piece.push('\t')?;
+    template.fill(scheme.axes(), tile.level, [tile.x, tile.y, tile.z], piece)
+}

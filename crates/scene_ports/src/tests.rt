@@ -1,0 +1,159 @@
+// What no clause says: that calls succeed with ample memory, which calls `failing` names, and what the adapters of the
+// real world do.
+use crate::{
+    FULL, Fetch, FileKeeper, FileSource, Folder, Give, GiveFault, Inlet, MemoryFiles, MemoryKeeper,
+    MemoryLink, Outlet, Put, ReadInlet, Take, WriteOutlet, give_all, give_rest, give_when_full,
+};
+use std::alloc::{AllocError, Global};
+use std::fs;
+use std::test::Fail;
+
+const LIMIT: usize = 16_777_216;
+
+fn pair(alloc: Global, name: &str, bytes: &[u8]) -> Result<(String, Vec<u8>), AllocError> {
+    Ok((
+        String::from_str(alloc, name)?,
+        Vec::from_slice(alloc, bytes)?,
+    ))
+}
+
+#[test]
+fn files_in_memory(rt: HostRuntime) -> Result<(), Fail> {
+    let alloc = rt.alloc();
+    let twice = vec![in alloc;
+        pair(alloc, "a", b"1")?,
+        pair(alloc, "b", b"")?,
+        pair(alloc, "a", b"2")?,
+    ]?;
+    assert!(rt; MemoryFiles::new(twice, Vec::new(alloc)).is_none());
+    let files = vec![in alloc; pair(alloc, "a", b"xyz")?, pair(alloc, "b", b"")?]?;
+    let mut source = MemoryFiles::new(files, vec![in alloc; 2]?).expect(&rt, "distinct names");
+    let mut out = vec![in alloc; 7]?;
+    let rows: [(&str, usize, Fetch, usize); 6] = [
+        ("a", 3, Fetch::Whole, 3),
+        ("a", 3, Fetch::Failed, 0),
+        ("a", 3, Fetch::Whole, 3),
+        ("a", 2, Fetch::TooLong, 0),
+        ("c", 2, Fetch::Missing, 0),
+        ("b", 0, Fetch::Whole, 0),
+    ];
+    for (name, limit, wanted, length) in rows {
+        assert!(rt; source.fetch(name, limit, &mut out) == wanted);
+        assert!(rt; out.len() == length);
+    }
+    Ok(())
+}
+
+#[test]
+fn a_keeper_in_memory(rt: HostRuntime) -> Result<(), Fail> {
+    let alloc = rt.alloc();
+    let mut keeper = MemoryKeeper::new(alloc, vec![in alloc; 3]?);
+    let rows: [(&str, &[u8], Put); 4] = [
+        ("a", b"1", Put::Kept),
+        ("b", b"2", Put::Kept),
+        ("c", b"3", Put::Failed),
+        ("a", b"4", Put::Kept),
+    ];
+    for (name, bytes, wanted) in rows {
+        assert!(rt; keeper.put(name, bytes) == wanted);
+    }
+    let files = keeper.files();
+    assert!(rt; files.len() == 2);
+    assert!(rt; files[0].0.as_str() == "a" && files[0].1.as_slice() == b"4".as_slice());
+    assert!(rt; files[1].0.as_str() == "b" && files[1].1.as_slice() == b"2".as_slice());
+    Ok(())
+}
+
+#[test]
+fn a_link_in_memory(rt: HostRuntime) -> Result<(), Fail> {
+    let alloc = rt.alloc();
+    let mut link = MemoryLink::new(alloc, vec![in alloc; 5, 6, 7]?, 2, vec![in alloc; 2, 5]?);
+    let mut buffer = [0u8; 8];
+    assert!(rt; link.take(&mut buffer) == Take::Got(2));
+    assert!(rt; buffer[0] == 5 && buffer[1] == 6);
+    assert!(rt; link.give(b"abc") == Give::Failed);
+    assert!(rt; link.give(b"abc") == Give::Took(3));
+    assert!(rt; link.take(&mut buffer) == Take::Got(1));
+    assert!(rt; link.take(&mut buffer) == Take::Failed);
+    assert!(rt; link.take(&mut buffer) == Take::End);
+    assert!(rt; link.written() == b"abc".as_slice());
+    Ok(())
+}
+
+// As a caller gives a text of many lines in few pieces.
+fn give_lines<O: Outlet>(
+    out: &mut O,
+    alloc: Global,
+    line: &str,
+    count: u32,
+) -> Result<(), GiveFault> {
+    let mut piece = String::new(alloc);
+    for _ in 0..count {
+        piece.push_str(line)?;
+        give_when_full(out, &mut piece)?;
+    }
+    give_rest(out, &mut piece)
+}
+
+#[test]
+fn lines_are_given_in_pieces(rt: HostRuntime) -> Result<(), Fail> {
+    let alloc = rt.alloc();
+    let mut link = MemoryLink::new(alloc, Vec::new(alloc), 1, vec![in alloc; 4]?);
+    // two full pieces and a rest are three gives, and the fourth fails
+    let count = (FULL as u32 / 8) * 2 + 1;
+    assert!(rt; give_lines(&mut link, alloc, "a line.\n", count) == Ok(()));
+    assert!(rt; link.written().len() == 8 * count as usize);
+    assert!(rt; give_all(&mut link, b"more") == Err(GiveFault::WriteFault));
+    Ok(())
+}
+
+#[test]
+fn the_folder_and_the_streams(rt: HostRuntime) -> Result<(), Fail> {
+    let alloc = rt.alloc();
+    let mut folder = Folder::here(alloc, rt.clone()?);
+    fs::create_dir(&rt, "deep")?;
+    let long = Vec::from_elem(alloc, 9, 200_000)?;
+    let puts: [(&str, &[u8], Put); 8] = [
+        ("a b", b"1", Put::Kept),
+        ("a%20b", b"234", Put::Kept),
+        ("deep/c", &long, Put::Kept),
+        ("deep", b"5", Put::Failed),
+        ("none/c", b"5", Put::Failed),
+        ("deep/../d", b"5", Put::Failed),
+        ("%2Fd", b"5", Put::Failed),
+        ("", b"5", Put::Failed),
+    ];
+    for (name, bytes, wanted) in puts {
+        assert!(rt; folder.put(name, bytes) == wanted);
+    }
+    let mut out = Vec::new(alloc);
+    let fetches: [(&str, usize, Fetch, usize); 10] = [
+        ("a%20b", LIMIT, Fetch::Whole, 3),
+        ("a b", 2, Fetch::TooLong, 0),
+        ("deep/c", 200_000, Fetch::Whole, 200_000),
+        ("deep/c", 199_999, Fetch::TooLong, 0),
+        ("d", LIMIT, Fetch::Missing, 0),
+        ("none/c", LIMIT, Fetch::Missing, 0),
+        ("deep", LIMIT, Fetch::Failed, 0),
+        ("a b/c", LIMIT, Fetch::Failed, 0),
+        ("deep/%2e%2e/a b", LIMIT, Fetch::Missing, 0),
+        ("a%00", LIMIT, Fetch::Missing, 0),
+    ];
+    for (name, limit, wanted, length) in fetches {
+        assert!(rt; folder.fetch(name, limit.min(LIMIT), &mut out) == wanted);
+        assert!(rt; out.len() == length);
+    }
+    let mut outlet = WriteOutlet::new(fs::create(&rt, "stream")?);
+    assert!(rt; outlet.give(b"xyz") == Give::Took(3));
+    let mut inlet = ReadInlet::new(fs::open(&rt, "stream")?);
+    let mut buffer = [0u8; 2];
+    assert!(rt; inlet.take(&mut buffer) == Take::Got(2));
+    assert!(rt; buffer == *b"xy");
+    assert!(rt; inlet.take(&mut buffer) == Take::Got(1));
+    assert!(rt; inlet.take(&mut buffer) == Take::End);
+    fs::remove_file(&rt, "a b")?;
+    fs::remove_file(&rt, "deep/c")?;
+    fs::remove_file(&rt, "stream")?;
+    fs::remove_dir(&rt, "deep")?;
+    Ok(())
+}

@@ -1,0 +1,34 @@
+use Rattle.std.proofs.Common.{◌+◌, ◌∙◌, sym, ap, rules, codes}
+use Rattle.serde_json.specs.Find.{get}
+use Rattle.serde_json.specs.View.{view}
+use Rattle.implicit_tileset.specs.Record.{buffer_of}
+use Rattle.subtree_json.proofs.EachRead.{goes_on, goes_on-start, goes_on-step, goes_on-fails, goes_on-end, IsList, listed_as}
+use Rattle.subtree_json.proofs.lists.read_buffers.Goals as goal
+
+pub loop-member-init : goal.loop-member-init
+loop-member-init c = ap (λ done. goes_on buffer_of done c.deref-member-items.result.now 0) c.in_ok-buffers.ensures.items ∙ goes_on-start buffer_of c.deref-member-items.result.now
+
+pub loop-member-preserved : goal.loop-member-preserved
+loop-member-preserved c =
+    ap (λ done. goes_on buffer_of done c.deref-member-items.result.now (c.loop-member.member-index + 1)) c.in_ok-push.ensures.items
+    ∙ goes_on-step buffer_of c.loop-member.buffers.items c.in-Some-buffer_of.buffer c.deref-member-items.result.now c.loop-member.member-index c.member-item.result c.loop-member-test.true c.member-item.is c.in-Some-buffer_of.ensures
+    ∙ c.loop-member.invariant
+
+pub returns : goal.returns
+returns c =
+    let is_list : IsList (get (codes "buffers") (view c.args.value.now)) c.deref-member-items.result.now = record {
+      value = view c.in-Some.list.now;
+      there = search rules;
+      values = search rules;
+    } in
+    listed_as 9 buffer_of _ _ _ is_list (sym c.loop-member.invariant ∙ goes_on-end buffer_of c.loop-member.buffers.items c.deref-member-items.result.now c.loop-member.member-index c.loop-member-test.false)
+
+pub returns-in_default-buffer_of : goal.returns-in_default-buffer_of
+returns-in_default-buffer_of c =
+    let is_list : IsList (get (codes "buffers") (view c.args.value.now)) c.deref-member-items.result.now = record {
+      value = view c.in-Some.list.now;
+      there = search rules;
+      values = search rules;
+    } in
+    listed_as 9 buffer_of _ _ _ is_list (sym c.loop-member.invariant
+    ∙ goes_on-fails buffer_of c.loop-member.buffers.items c.deref-member-items.result.now c.loop-member.member-index c.member-item.result c.loop-member-test.true c.member-item.is c.in_default-buffer_of.ensures)
