@@ -70,8 +70,8 @@ impl Subtree {
         mask_at(&self.contents, nodes_above(self.scheme, local) + index)
     }
 
-    /// Whether there is a subtree below the node of this index of the last local level: the index is that of its root
-    /// within the level below (OGC 22-025r4, child subtree availability).
+    /// Whether there is a child subtree whose root has this index in the level below the last local one
+    /// (OGC 22-025r4, child subtree availability).
     pub fn child_at(&self, index: u64) -> bool
         requires { index < branching self.now.scheme ^ self.now.levels }
         ensures { result ≡ has_child self.now index }
