@@ -13,6 +13,8 @@ use Rattle.implicit_tiling.specs.Text.{answer_text, refused_text, checked_text}
 use Rattle.implicit_tileset.specs.Tileset.{layout_of}
 use Rattle.implicit_tileset.specs.Scene.{scene_of}
 use Rattle.scene_ports.specs.Output.{GivesFront}
+use Rattle.tile_coords.specs.declared.walk_end.WalkEnd.{WalkEnd}
+use Rattle.tile_coords.specs.declared.walk_end.WalkEnd.TheVariants.{Partial, Complete, TooMany, Fault}
 use Rattle.commands.specs.Words.{Wish, tiles, check}
 use Rattle.commands.specs.declared.status.Status.{Status}
 use Rattle.commands.specs.declared.status.Status.TheVariants.{Done, Faulted, Usage, BadLayout, ReadFault, WriteFault, InputFault, Memory, InputLong}
@@ -27,6 +29,13 @@ abbrev pub end_status : End → Status
 end_status complete = Done
 end_status too_many = Done
 end_status (fault root number) = Faulted
+
+-- the same of the end of a walk
+abbrev pub walk_status : WalkEnd → Status
+walk_status Partial = Done
+walk_status Complete = Done
+walk_status TooMany = Done
+walk_status (Fault root number) = Faulted
 
 -- the reply to a line that was read to a plan, or refused
 abbrev pub plan_reply : Scene → Result Plan ℕ → Reply
