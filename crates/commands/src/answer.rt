@@ -52,6 +52,8 @@ fn answer_plan<S: FileSource, O: Outlet>(
     ensures left_aside { O.left_aside out.new ≡ O.left_aside out.old }
     ensures taken_aside { O.taken_aside out.new ≡ O.taken_aside out.old }
 {
+    // The scheme is read so that the limits of the layout are known.
+    let _scheme = layout.scheme;
     let mut words = Vec::new(alloc);
     let end = match fresh(alloc, files, layout, plan, &mut words) {
         Ok(end) => end,
