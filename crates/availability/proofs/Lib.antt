@@ -1,3 +1,7 @@
 pub mod Levels
 pub mod Parts
 pub mod Tiles
+pub mod Places
+pub mod Orphans
+pub mod Masks
+pub mod Checks

@@ -3,9 +3,12 @@
 #![tactic(auto)]
 
 mod nodes;
+mod rules;
+mod subtree;
 mod word;
 
 pub use nodes::{axes, nodes_above, nodes_at};
+pub use subtree::{RuleFault, Subtree};
 pub use word::{WordTile, index_of, tile_at, tile_of, word_of};
 
 #[cfg(test)]

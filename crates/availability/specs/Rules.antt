@@ -1,0 +1,43 @@
+-- The rules of a subtree's bits (OGC 22-025r4, implicit tiling: availability), as one answer and as facts of raw bits.
+use Rattle.std.specs.Prelude.{ℕ, ◌≡◌, ◌+◌, ◌-◌, ◌/◌, ◌^◌, ◌<◌, ◌≤◌, ◌&&◌, not, Bool, true, false, List, Result, Ok, Err, MatchBool}
+use Rattle.implicit_tiling.specs.declared.Scheme.{Scheme}
+use Rattle.implicit_tiling.specs.Tile.{branching}
+use Rattle.implicit_tiling.specs.Availability.{nodes_above}
+use Rattle.implicit_tiling.specs.Subtree.{Subtree, bit_at, has_orphan, has_content_alone}
+use Rattle.availability.specs.declared.subtree.RuleFault.{RuleFault}
+use Rattle.availability.specs.declared.subtree.RuleFault.TheVariants.{ParentMissing, ContentWithoutTile}
+
+-- the first rule that is broken: a parent is missing, else a content stands without its tile
+abbrev pub fault_from : Bool → Bool → Result (Unit {0}) RuleFault
+fault_from true alone = Err ParentMissing
+fault_from false true = Err ContentWithoutTile
+fault_from false false = Ok tt
+
+abbrev pub rule_fault : Subtree → Result (Unit {0}) RuleFault
+rule_fault s = fault_from (has_orphan s) (has_content_alone s)
+
+-- so many of the local levels stand below the levels in all
+pub record IsKeptCount (s : Subtree) (kept : ℕ) : Type 0 where
+  pub some : 1 ≤ kept
+  pub within : kept ≤ s.levels
+  pub low : s.root.level + kept ≤ s.cut
+  pub high : kept < s.levels → s.cut ≤ s.root.level + kept
+
+-- the raw bit of a node, and of its parent
+abbrev pub raw_bit : Scheme → List Bool → ℕ → ℕ → Bool
+raw_bit scheme bits l m = bit_at bits (nodes_above scheme l + m)
+
+abbrev pub raw_orphan : Scheme → List Bool → ℕ → ℕ → Bool
+raw_orphan scheme bits l m = raw_bit scheme bits l m && not (raw_bit scheme bits (l - 1) (m / branching scheme))
+
+-- whether some node of the level is one without its parent
+abbrev pub HasOrphanAt : Scheme → List Bool → ℕ → Bool → Type 0
+HasOrphanAt scheme bits l found = MatchBool found
+    ((m : ℕ) × (m < branching scheme ^ l) × (raw_orphan scheme bits l m ≡ true))
+    ((m : ℕ) → m < branching scheme ^ l → raw_orphan scheme bits l m ≡ false)
+
+-- whether each of the first n bits that is 1 is 1 in the others too
+abbrev pub IsWithin : List Bool → List Bool → ℕ → Bool → Type 0
+IsWithin bits other n found = MatchBool found
+    ((i : ℕ) → i < n → bit_at bits i ≡ true → bit_at other i ≡ true)
+    ((i : ℕ) × (i < n) × (bit_at bits i ≡ true) × (bit_at other i ≡ false))

@@ -1,0 +1,133 @@
+// Decoded subtrees.
+ghost use Rattle.std.specs.Prelude.{◌≡◌, ◌^◌, ◌<◌, ◌≤◌};
+ghost use Rattle.implicit_tiling.specs.Tile.{branching};
+ghost use Rattle.implicit_tiling.specs.Subtree.{is_kept as is_kept_of, has_tile, has_child, contents_mask, has_orphan as has_orphan_of, has_content_alone as has_content_alone_of};
+ghost use Rattle.availability.specs.Rules.{rule_fault, IsKeptCount};
+
+use crate::nodes::nodes_above;
+use crate::rules::{has_orphan_at, is_within, mask_at};
+use bitstream::Bits;
+use std::marker::Model;
+use tile_coords::{Scheme, Tile};
+
+/// A decoded subtree: the bits that its file names for its nodes, their contents and its child subtrees
+/// (OGC 22-025r4, implicit tiling: subtrees). Bits at levels from the levels in all on count as 0.
+#[derive(Drop)]
+pub struct Subtree {
+    pub scheme: Scheme,
+    /// The levels of the subtree, at least 1.
+    pub levels: u32,
+    /// The levels in all, above the root's level.
+    pub cut: u32,
+    /// The tile that the subtree begins with.
+    pub root: Tile,
+    /// A bit for each node.
+    pub tiles: Bits,
+    /// A bit for each node, for each content.
+    pub contents: Vec<Bits>,
+    /// A bit for each child subtree below the last level.
+    pub child: Bits,
+}
+
+impl Model for Subtree {
+    ghost use Rattle.implicit_tiling.specs.Subtree.{Subtree as subtree, IsSubtree};
+
+    ghost Value = { subtree };
+
+    ghost view = { λ s. record { scheme = s.scheme; levels = s.levels; cut = s.cut; root = s.root; tiles = s.tiles; contents = s.contents.items; child = s.child } };
+
+    ghost invariant = { λ s. IsSubtree (record { scheme = s.scheme; levels = s.levels; cut = s.cut; root = s.root; tiles = s.tiles; contents = s.contents.items; child = s.child }) };
+}
+
+/// Which rule the bits of a subtree break.
+#[derive(Clone, Copy, Debug, PartialEq, Eq)]
+pub enum RuleFault {
+    /// A node below the local root has bit 1, and its parent bit 0.
+    ParentMissing,
+    /// A node has a content with bit 1, and its tile bit 0.
+    ContentWithoutTile,
+}
+
+impl Subtree {
+    /// Whether the node of a local level and an index within that level is there (OGC 22-025r4, tile availability).
+    pub fn tile_at(&self, local: u32, index: u64) -> bool
+        requires local { local < self.now.levels }
+        requires index { index < branching self.now.scheme ^ local }
+        ensures { result ≡ has_tile self.now local index }
+    {
+        self.is_kept(local) && self.tiles.get(nodes_above(self.scheme, local) + index)
+    }
+
+    /// The contents of that node: bit c for content c (OGC 22-025r4, content availability).
+    pub fn contents_at(&self, local: u32, index: u64) -> u8
+        requires local { local < self.now.levels }
+        requires index { index < branching self.now.scheme ^ local }
+        ensures { result ≡ contents_mask self.now local index }
+    {
+        if !self.is_kept(local) {
+            return 0;
+        }
+        mask_at(&self.contents, nodes_above(self.scheme, local) + index)
+    }
+
+    /// Whether there is a subtree below the node of this index of the last local level: the index is that of its root
+    /// within the level below (OGC 22-025r4, child subtree availability).
+    pub fn child_at(&self, index: u64) -> bool
+        requires { index < branching self.now.scheme ^ self.now.levels }
+        ensures { result ≡ has_child self.now index }
+    {
+        self.is_kept(self.levels) && self.child.get(index)
+    }
+
+    /// Which rule the bits break first, if any: ParentMissing exactly where a node below the local root is there and
+    /// its parent isn't; else ContentWithoutTile exactly where a node has a content and isn't there.
+    pub fn check(&self) -> Result<(), RuleFault>
+        ensures { result ≡ rule_fault self.now }
+    {
+        if self.has_orphan() {
+            return Err(RuleFault::ParentMissing);
+        }
+        if self.has_content_alone() {
+            return Err(RuleFault::ContentWithoutTile);
+        }
+        Ok(())
+    }
+
+    // Whether a local level is below the levels in all.
+    fn is_kept(&self, local: u32) -> bool
+        requires { local ≤ self.now.levels }
+        ensures { result ≡ is_kept_of self.now local }
+    {
+        self.root.level + local < self.cut
+    }
+
+    // How many local levels are below the levels in all.
+    fn kept_levels(&self) -> u32
+        ensures { IsKeptCount self.now result }
+    {
+        self.levels.min(self.cut - self.root.level)
+    }
+
+    fn has_orphan(&self) -> bool
+        ensures { result ≡ has_orphan_of self.now }
+    {
+        for local in 1..self.kept_levels() {
+            if has_orphan_at(self.scheme, &self.tiles, local) {
+                return true;
+            }
+        }
+        false
+    }
+
+    fn has_content_alone(&self) -> bool
+        ensures { result ≡ has_content_alone_of self.now }
+    {
+        let kept = nodes_above(self.scheme, self.kept_levels());
+        for bits in &self.contents {
+            if !is_within(bits, &self.tiles, kept) {
+                return true;
+            }
+        }
+        false
+    }
+}
