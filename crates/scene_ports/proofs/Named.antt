@@ -1,6 +1,6 @@
 -- Files, looked up by name, after a pair is put in place of another or behind all.
 use Rattle.std.proofs.Common.{get_or, drop, take, ◌-◌, ◌↔◌, add-one, drop-cons, ◌≡◌, ◌≢◌, ℕ, zero, suc, Bool, true, false, List, [], ◌∷◌, ◌++◌, ◌<◌, set, length, refl, sym, ap, ◌∙◌, subst, arith, if◌then◌else◌}
-use Rattle.std.specs.Prelude.{Option, Some, None, IsNone, is_some, cond, ◌+◌, map, position, String, string_bytes, Vec}
+use Rattle.std.specs.Prelude.{Option, Some, None, IsNone, is_some, cond, ◌+◌, position, String, string_bytes, Vec}
 use Rattle.std.specs.List.{position_from}
 use Rattle.std.specs.declared.alloc.Global.{Global}
 use Rattle.std.proofs.lemmas.List.{map-set, map-append, take_rest}

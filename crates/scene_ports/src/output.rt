@@ -19,7 +19,7 @@ pub enum GiveFault {
 impl From<AllocError> for GiveFault {
     ghost use Rattle.scene_ports.specs.declared.output.GiveFault.TheVariants.{Memory};
 
-    ghost from_gives = { λ _ r. r ≡ Memory };
+    ghost from_gives = { λ _ fault. fault ≡ Memory };
 
     fn from(_error: AllocError) -> GiveFault {
         GiveFault::Memory

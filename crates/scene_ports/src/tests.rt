@@ -89,9 +89,7 @@ fn give_lines<O: Outlet>(
 ) -> Result<(), GiveFault> {
     let mut piece = String::new(alloc);
     for _ in 0..count {
-        if piece.push_str(line).is_err() {
-            return Err(GiveFault::Memory);
-        }
+        piece.push_str(line)?;
         give_when_full(out, &mut piece)?;
     }
     give_rest(out, &mut piece)
@@ -153,5 +151,9 @@ fn the_folder_and_the_streams(rt: HostRuntime) -> Result<(), Fail> {
     assert!(rt; buffer == *b"xy");
     assert!(rt; inlet.take(&mut buffer) == Take::Got(1));
     assert!(rt; inlet.take(&mut buffer) == Take::End);
+    fs::remove_file(&rt, "a b")?;
+    fs::remove_file(&rt, "deep/c")?;
+    fs::remove_file(&rt, "stream")?;
+    fs::remove_dir(&rt, "deep")?;
     Ok(())
 }

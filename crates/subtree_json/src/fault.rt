@@ -13,14 +13,14 @@ pub enum JsonFault {
     BadJson,
     /// The value isn't an object.
     NotObject,
-    /// `buffers` isn't an array, or a member isn't an object with a number `byteLength`, or has a `uri` that isn't a
-    /// string.
+    /// `buffers` is there and isn't an array, or a member of it isn't an object with a number `byteLength`, or has a
+    /// `uri` that isn't a string.
     BadBuffers,
-    /// `bufferViews` isn't an array, or a member isn't an object with the numbers `buffer`, `byteOffset` and
-    /// `byteLength`.
+    /// `bufferViews` is there and isn't an array, or a member of it isn't an object with the numbers `buffer`,
+    /// `byteOffset` and `byteLength`.
     BadViews,
-    /// `tileAvailability` or `childSubtreeAvailability` isn't an availability object, or `contentAvailability` isn't
-    /// an array.
+    /// `tileAvailability` or `childSubtreeAvailability` isn't an availability object, or
+    /// `contentAvailability` is there and isn't an array.
     BadAvailability,
     /// There isn't enough memory.
     Memory,

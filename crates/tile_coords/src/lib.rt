@@ -11,7 +11,7 @@ pub use implicit_tiling::Scheme;
 pub use plan::Plan;
 pub use region::{Region, RegionFault};
 pub use tile::Tile;
-pub use walk_end::{WalkEnd, Word};
+pub use walk_end::{CheckEnd, FoundFault, WalkEnd, Word};
 
 #[cfg(test)]
 mod tests;

@@ -1,4 +1,4 @@
-use Rattle.std.proofs.Common.{◌≡◌, ◌∙◌, sym, ap, set}
+use Rattle.std.proofs.Common.{◌∙◌, sym, ap, set}
 use Rattle.std.specs.Prelude.{position}
 use Rattle.scene_ports.specs.Files.{files_of, HasDistinctNames}
 use Rattle.scene_ports.specs.Keeper.{Puts}

@@ -1,4 +1,4 @@
-use Rattle.std.proofs.Common.{false, true, ◌∙◌, sym, ◌≡◌, ◌↔◌, arith, ◌<◌, length}
+use Rattle.std.proofs.Common.{false, true, ◌∙◌, sym, ◌≡◌, arith, ◌<◌, length}
 use Rattle.scene_ports.proofs.Named.{distinct_here, repeated_here}
 use Rattle.scene_ports.proofs.pairs.has_distinct_names.Goals as goal
 

@@ -1,4 +1,4 @@
-use Rattle.std.proofs.Common.{◌≡◌, ◌↔◌, drop}
+use Rattle.std.proofs.Common.{◌↔◌, drop}
 use Rattle.scene_ports.specs.Files.{files_of, HasDistinctNames}
 use Rattle.scene_ports.proofs.pairs.has_distinct_names.Given as goal
 

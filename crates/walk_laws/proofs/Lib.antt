@@ -1,0 +1,13 @@
+pub mod Lists
+pub mod Runs
+pub mod Segments
+pub mod Plain
+pub mod Decoded
+pub mod Children
+pub mod Regions
+pub mod StepList
+pub mod PairOrder
+pub mod Faults
+pub mod StepLaw
+pub mod Whole
+pub mod Frontiers
