@@ -4,7 +4,7 @@
 
 mod children;
 mod level;
-//pub mod node_laws;
+pub mod node_laws;
 mod nodes;
 
 pub use children::child_roots;
