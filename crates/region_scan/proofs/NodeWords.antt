@@ -4,7 +4,7 @@ use Rattle.std.specs.Prelude.{◌&&◌, nat_lt, filter}
 use Rattle.std.specs.List.{All, AllPairs, range_with_len}
 use Rattle.std.proofs.Math.Nat.{pow-le-pow_right}
 use Rattle.std.proofs.lemmas.Bool.{and_parts, ltb-true}
-use Rattle.std.proofs.lemmas.List.{length-map}
+use Rattle.std.proofs.lemmas.List.{length-map, get_or-map}
 use Rattle.std.proofs.lemmas.List.Elements.{All-nil, All-cons, All-head, All-tail, All-map}
 use Rattle.std.proofs.lemmas.List.Kept.{AllPairs-filter}
 use Rattle.std.proofs.lemmas.List.FromFn.{get_or-range_with_len, length-range_with_len}
@@ -105,8 +105,39 @@ pub found_words_are_words : (s : Subtree) (region : Region) → IsSubtree s → 
 found_words_are_words s region is = record {
   tiles = λ l. of_found (is_tile_in s region l) (node_word s l) (branching s.scheme ^ l) (IsNodeWord s region l (2 ^ length s.contents))
       (λ m pass. let here = tile_passes s region l m pass.yes in
-          word_of_node s region l m (contents_mask s l m) (2 ^ length s.contents) is here.0 pass.low here.1 (contents_below s l m) (few_masks s is));
+      word_of_node s region l m (contents_mask s l m) (2 ^ length s.contents) is here.0 pass.low here.1 (contents_below s l m) (few_masks s is));
   children = of_found (is_child_in s region) (child_word s) (branching s.scheme ^ s.levels) (IsNodeWord s region s.levels 1)
       (λ m pass. let here = child_passes s region m pass.yes in
-          word_of_node s region s.levels m 0 1 is here.0 pass.low here.1 (lit< tt) (omega arith));
+      word_of_node s region s.levels m 0 1 is here.0 pass.low here.1 (lit< tt) (omega arith));
+}
+
+-- of two that are found the first has the lower key
+tile_of_node : (s : Subtree) (l m mask : ℕ) → IsSubtree s → s.root.level + l < s.cut → mask < 2 ^ 8 → word_tile s.scheme (word s.scheme (node_at s l m) mask) ≡ node_at s l m
+tile_of_node s l m mask is kept short = tile_of_word s.scheme (node_at s l m) mask (node_has_word s l m is kept) short
+
+keys_rise : (s : Subtree) (l m n a b : ℕ) → IsSubtree s → s.root.level + l < s.cut → m < n → n < branching s.scheme ^ l → a < 2 ^ 8 → b < 2 ^ 8
+    → is_key_below s.scheme (word_tile s.scheme (word s.scheme (node_at s l m) a)) (word_tile s.scheme (word s.scheme (node_at s l n) b)) ≡ true
+keys_rise s l m n a b is kept low h short_a short_b =
+    ap (λ t. is_key_below s.scheme t (word_tile s.scheme (word s.scheme (node_at s l n) b))) (tile_of_node s l m a is kept short_a)
+    ∙ ap (λ t. is_key_below s.scheme (node_at s l m) t) (tile_of_node s l n b is kept short_b)
+    ∙ below_by_index s.scheme (node_at s l m) (node_at s l n) (node_level s l m ∙ sym (node_level s l n))
+    (omega (arith, node_index s l m (omega arith), node_index s l n h))
+
+pairs_found : (test : ℕ → Bool) (value : ℕ → ℕ) (n : ℕ) (R : ℕ → ℕ → Type 0) → ((j k : ℕ) → Passes test n j → Passes test n k → j < k → R (value j) (value k))
+    → AllPairs R (map value (filter test (range_with_len 0 n)))
+pairs_found test value n R each = λ i j d low within.
+    let xs = filter test (range_with_len 0 n) in
+    let high : j < length xs = omega (arith, within, length-map xs value) in
+    let before : i < length xs = omega arith in
+    subst (λ w. R w (get_or (map value xs) j d)) (sym (get_or-map value xs i 0 d before))
+    (subst (λ w. R (value (get_or xs i 0)) w) (sym (get_or-map value xs j 0 d high))
+    (each (get_or xs i 0) (get_or xs j 0) (all_pass test n i 0 before) (all_pass test n j 0 high) (pairs_pass test n i j 0 low high)))
+
+pub found_words_rise : (s : Subtree) (region : Region) → IsSubtree s → WordsRiseInKeyOrder s region
+found_words_rise s region is = record {
+  tiles = λ l. pairs_found (is_tile_in s region l) (node_word s l) (branching s.scheme ^ l) (λ v w. is_key_below s.scheme (word_tile s.scheme v) (word_tile s.scheme w) ≡ true)
+      (λ m n one other low. keys_rise s l m n (contents_mask s l m) (contents_mask s l n) is (tile_passes s region l m one.yes).0 low other.low
+      (omega (arith, contents_below s l m, few_masks s is)) (omega (arith, contents_below s l n, few_masks s is)));
+  children = pairs_found (is_child_in s region) (child_word s) (branching s.scheme ^ s.levels) (λ v w. is_key_below s.scheme (word_tile s.scheme v) (word_tile s.scheme w) ≡ true)
+      (λ m n one other low. keys_rise s s.levels m n 0 0 is (child_passes s region m one.yes).0 low other.low (lit< tt) (lit< tt));
 }

@@ -10,5 +10,5 @@ mod nodes;
 pub use children::child_roots;
 pub use level::level_tiles;
 
-//#[cfg(test)]
-//mod tests;
+#[cfg(test)]
+mod tests;

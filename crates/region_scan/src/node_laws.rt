@@ -28,3 +28,7 @@ pub fn what_is_found_are_words()
     ensures { FoundWordsAreWords }
 {}
 
+/// The words that are found stand in key order.
+pub fn what_is_found_is_in_key_order()
+    ensures { FoundWordsRise }
+{}
