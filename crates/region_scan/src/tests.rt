@@ -1,8 +1,9 @@
 // Regions and limits over worked subtrees.
-ghost use Rattle.std.specs.Prelude.{◌≡◌, IfOk, length};
+ghost use Rattle.std.specs.Prelude.{◌≡◌, ◌<◌, ◌≤◌, IfOk, length};
+ghost use Rattle.implicit_tiling.specs.Limits.{most_levels, most_subtree_levels};
 
 use crate::{child_roots, level_tiles};
-use availability::Subtree;
+use availability::{Subtree, nodes_above, nodes_at};
 use bitstream::Bits;
 use std::alloc::{AllocError, Global};
 use std::test::Fail;
@@ -111,18 +112,31 @@ fn regions_and_limits(rt: HostRuntime) -> Result<(), Fail> {
     Ok(())
 }
 
+// A subtree below the root tile with no content, whose other bits are all 1.
+fn full(alloc: Global, scheme: Scheme, levels: u32, cut: u32) -> Subtree
+    requires some { 1 ≤ levels }
+    requires few { levels ≤ most_subtree_levels scheme }
+    requires below { 0 < cut }
+    requires within { cut ≤ most_levels scheme }
+    ensures { (result.scheme ≡ scheme) × (result.levels ≡ levels) }
+{
+    let tiles = Bits::constant(true, nodes_above(scheme, levels));
+    let child = Bits::constant(true, nodes_at(scheme, levels));
+    Subtree {
+        scheme,
+        levels,
+        cut,
+        root: Tile::root(),
+        tiles,
+        contents: Vec::new(alloc),
+        child,
+    }
+}
+
 #[test]
 fn the_deepest_octree(rt: HostRuntime) -> Result<(), Fail> {
     let alloc = rt.alloc();
-    let subtree = Subtree {
-        scheme: Scheme::Oct,
-        levels: 7,
-        cut: 18,
-        root: Tile::root(),
-        tiles: Bits::constant(true, 299_593),
-        contents: Vec::new(alloc),
-        child: Bits::constant(true, 2_097_152),
-    };
+    let subtree = full(alloc, Scheme::Oct, 7, 18);
     let region = Region {
         level: 6,
         lo: [63, 0, 63],
