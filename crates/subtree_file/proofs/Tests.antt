@@ -33,11 +33,11 @@ any_at p (x ∷ xs) zero d within here = ap (λ a. a || list_any p xs) here
 any_at p (x ∷ xs) (suc i) d within here = ap (λ a. p x || a) (any_at p xs i d (omega arith) here) ∙ or-true (p x)
 
 -- no item passes, so this one doesn't
-left : (a b : Bool) → (a || b) ≡ false → a ≡ false
+pub left : (a b : Bool) → (a || b) ≡ false → a ≡ false
 left true b h = h
 left false b h = refl
 
-right : (a b : Bool) → (a || b) ≡ false → b ≡ false
+pub right : (a b : Bool) → (a || b) ≡ false → b ≡ false
 right true b h = cc
 right false b h = h
 

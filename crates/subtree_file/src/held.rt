@@ -11,6 +11,7 @@ use std::marker::Model;
 use subtree_json::{Availability, BufferPart, SubtreeRecord, ViewPart};
 
 // A record with the bytes of its internal buffer.
+#[derive(Drop)]
 pub(crate) struct Held<'f> {
     pub parts: &'f SubtreeRecord,
     pub binary: &'f [u8],
