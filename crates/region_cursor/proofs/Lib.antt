@@ -1,0 +1,6 @@
+pub mod Words
+pub mod Lists
+pub mod Places
+pub mod Passing
+pub mod Walked
+pub mod Results

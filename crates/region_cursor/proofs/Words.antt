@@ -1,0 +1,76 @@
+-- What a subtree gives a step are words.
+use Rattle.std.proofs.Common.{◌≡◌, ℕ, ◌+◌, ◌-◌, ◌*◌, ◌/◌, ◌^◌, ◌<◌, ◌≤◌, Bool, true, false, List, [], length, get_or, take, map, refl, ap, subst, arith}
+use Rattle.std.specs.Prelude.{◌&&◌, nat_lt, filter}
+use Rattle.std.specs.List.{All}
+use Rattle.std.proofs.Math.Pow.{pow_mono}
+use Rattle.std.proofs.lemmas.Bool.{and_parts, ltb-true}
+use Rattle.std.proofs.lemmas.List.{length-map, length-take}
+use Rattle.std.proofs.lemmas.List.Elements.{All-map, All-take, All-same, filter_passes}
+use Rattle.implicit_tiling.specs.declared.Scheme.{Scheme}
+use Rattle.implicit_tiling.specs.Limits.{most_contents}
+use Rattle.implicit_tiling.specs.Tile.{branching, index}
+use Rattle.implicit_tiling.specs.Region.{Region, is_in}
+use Rattle.implicit_tiling.specs.Availability.{nodes_above}
+use Rattle.implicit_tiling.specs.Subtree.{Subtree, IsSubtree, bit_at, node_bit, is_kept, has_tile, has_child, contents_mask}
+use Rattle.implicit_tiling.specs.Answer.{most_tiles}
+use Rattle.implicit_tiling.specs.Code.{IsWord}
+use Rattle.implicit_tiling.specs.Nodes.{node_at, indices, tiles_in, node_word, level_words, is_child_in, children_in, child_word, child_words}
+use Rattle.tiling_laws.proofs.TileAt.{tile_at_level}
+use Rattle.availability.proofs.Masks.{mask_below}
+use Rattle.availability.proofs.Tiles.{word_is_word}
+use Rattle.walk_laws.proofs.Decoded.{of_tiles_in}
+use Rattle.region_cursor.specs.Cursor.{Cursor, local_level_of, FitsSubtree}
+use Rattle.region_cursor.specs.Moves.{with_children, counted, room, made_by, made_good, made_at}
+
+mask_is_short : (st : Subtree) (l m : ℕ) → IsSubtree st → contents_mask st l m < 2 ^ 8
+mask_is_short st l m is =
+    let bits : List Bool = map (λ bits. node_bit st bits l m) st.contents in
+    let few : length st.contents ≤ 8 = is.few_contents in
+    let below = mask_below bits (length st.contents) (length-map st.contents (λ bits. node_bit st bits l m)) in
+    omega (arith, below, pow_mono {i = length st.contents} {j = 8} few)
+
+pub level_words_are_words : (st : Subtree) (region : Region) (l : ℕ) → IsSubtree st → All (IsWord st.scheme) (level_words st region l)
+level_words_are_words st region l is =
+    All-map (IsWord st.scheme) (node_word st l) (tiles_in st region l)
+    (of_tiles_in (λ m. IsWord st.scheme (node_word st l m)) st region l
+    (λ m h there within. let kept = ltb-true (st.root.level + l) st.cut (and_parts (is_kept st l) (bit_at st.tiles (nodes_above st.scheme l + m)) there).0 in
+    let level = tile_at_level st.scheme (st.root.level + l) (index st.scheme st.root * branching st.scheme ^ l + m) in
+    word_is_word st.scheme (node_at st l m) (contents_mask st l m) (omega (arith, kept, level, is.few_levels_in_all)) (mask_is_short st l m is)))
+
+pub child_words_are_words : (st : Subtree) (region : Region) → IsSubtree st → All (IsWord st.scheme) (child_words st region)
+child_words_are_words st region is =
+    let passes = filter_passes (is_child_in st region) (indices st st.levels) in
+    All-map (IsWord st.scheme) (child_word st) (children_in st region)
+    (λ k d below. let m = get_or (children_in st region) k d in
+    let above = has_tile st (st.levels - 1) (m / branching st.scheme) in
+    let bits = and_parts (has_child st m && above) (is_in region (node_at st st.levels m)) (passes k d below) in
+    let own = and_parts (has_child st m) above bits.0 in
+    let kept = ltb-true (st.root.level + st.levels) st.cut (and_parts (is_kept st st.levels) (bit_at st.child m) own.0).0 in
+    let level = tile_at_level st.scheme (st.root.level + st.levels) (index st.scheme st.root * branching st.scheme ^ st.levels + m) in
+    let short : 0 < 2 ^ 8 = omega arith in
+    word_is_word st.scheme (node_at st st.levels m) 0 (omega (arith, kept, level, is.few_levels_in_all)) short)
+
+-- the words of a step, and how many tiles were given then
+made_by_words : (more : Bool) (words : List ℕ) (c : Cursor) → (made_by more words c).words ≡ words
+made_by_words true words c = refl
+made_by_words false words c = refl
+
+pub words_of_step : (c : Cursor) (st : Subtree) → FitsSubtree c st → IsSubtree st → All (IsWord c.scheme) (made_good c st).words
+words_of_step c st fits is =
+    let found = level_words st c.region (local_level_of c) in
+    let more = nat_lt (room c) (length found) in
+    let words = take (room c) found in
+    let own = All-take (IsWord st.scheme) (room c) found (level_words_are_words st c.region (local_level_of c) is) in
+    let named = subst (λ (e : Scheme). All (IsWord e) words) fits.same_scheme own in
+    All-same (IsWord c.scheme) (made_good c st).words words (made_by_words more words (counted words (with_children more c (child_words st c.region)))) named
+
+pub few_of_step : (c : Cursor) (st : Subtree) → c.count ≤ most_tiles → c.count + length (made_good c st).words ≤ most_tiles
+few_of_step c st few =
+    let found = level_words st c.region (local_level_of c) in
+    let more = nat_lt (room c) (length found) in
+    let words = take (room c) found in
+    omega (arith, few, ap length (made_by_words more words (counted words (with_children more c (child_words st c.region)))), length-take (room c) found)
+
+pub no_words_of_fault : (first : Bool) (c : Cursor) (n : ℕ) → [] ≡ (made_at first c n).words
+no_words_of_fault true c n = refl
+no_words_of_fault false c n = refl

@@ -1,0 +1,49 @@
+use Rattle.std.proofs.Common.{◌≡◌, ◌≤◌, ◌+◌, ℕ, length, subst, sym, ap, ◌∙◌}
+use Rattle.std.specs.Prelude.{◌==◌}
+use Rattle.std.specs.List.{All}
+use Rattle.std.proofs.lemmas.List.Elements.{All-same}
+use Rattle.std.proofs.lemmas.Result.{IfOk-weaker}
+use Rattle.implicit_tiling.specs.Scene.{Scene}
+use Rattle.implicit_tiling.specs.Answer.{most_tiles}
+use Rattle.implicit_tiling.specs.Code.{IsWord}
+use Rattle.tile_coords.specs.declared.walk_end.WalkEnd.{WalkEnd}
+use Rattle.region_cursor.specs.declared.outcome.Outcome.{Outcome}
+use Rattle.region_cursor.specs.declared.outcome.Outcome.TheVariants.{Good, Bad}
+use Rattle.region_cursor.specs.Cursor.{local_level_of, next_root, Fits}
+use Rattle.region_cursor.specs.Moves.{made_good, made_bad}
+use Rattle.region_cursor.specs.Outcomes.{outcome_seen}
+use Rattle.region_cursor.specs.Walked.{IsAt, GivesStep}
+use Rattle.region_cursor.proofs.Results.{if_all}
+use Rattle.region_cursor.proofs.Words.{words_of_step, no_words_of_fault}
+use Rattle.region_cursor.proofs.Walked.{makes_as_given}
+use Rattle.region_cursor.proofs.cursor.CursorState.step.Goals as goal
+
+pub returns-in-Good-clause-are_words : goal.returns-in-Good-clause-are_words
+returns-in-Good-clause-are_words c =
+    let self = c.args.self.now in
+    let st = c.in-Good.subtree in
+    let fits = subst (Fits self) c.in-Good.is c.requires.fits in
+    IfOk-weaker c.step_good.result (λ end. c.step_good.new.words.items ≡ (made_good self st).words) (λ end. All (IsWord self.scheme) c.step_good.new.words.items)
+    (λ end words. All-same (IsWord self.scheme) c.step_good.new.words.items (made_good self st).words words (words_of_step self st fits c.step_good.ensures.limits)) c.step_good.ensures.words
+
+pub returns-in-Good-clause-scene : goal.returns-in-Good-clause-scene
+returns-in-Good-clause-scene c =
+    let self = c.args.self.now in
+    let st = c.in-Good.subtree in
+    let fits = subst (Fits self) c.in-Good.is c.requires.fits in
+    let told = ap outcome_seen (sym c.in-Good.is) in
+    if_all c.step_good.result
+    (λ end. c.step_good.new.words.items ≡ (made_good self st).words) (λ end. end ≡ (made_good self st).end) (λ end. c.step_good.new.self ≡ (made_good self st).after)
+    (λ end. (s : Scene) (k : ℕ) → IsAt s self.region k self → outcome_seen c.args.outcome.now ≡ s.outcome (next_root self)
+        → GivesStep s self.region k c.step_good.new.words.items end × IsAt s self.region (k + 1) c.step_good.new.self)
+    (λ end words end_is after. λ s k is same.
+    makes_as_given s self.region k self (Good st) c.step_good.new.words.items end c.step_good.new.self words end_is after is c.requires.key fits c.step_good.ensures.limits (told ∙ same))
+    c.step_good.ensures.words c.step_good.ensures.end c.step_good.ensures.after
+
+pub returns-in-Bad-clause-scene : goal.returns-in-Bad-clause-scene
+returns-in-Bad-clause-scene c =
+    let self = c.args.self.now in
+    let n = c.in-Bad.number in
+    let told = ap outcome_seen (sym c.in-Bad.is) in
+    λ s k is same.
+    makes_as_given s self.region k self (Bad n) c.clear.new.self.items c.step_bad.result c.step_bad.new.self (c.clear.ensures.items ∙ no_words_of_fault (local_level_of self == 0) self n) c.step_bad.ensures.end c.step_bad.ensures.after is c.requires.key tt tt (told ∙ same)

@@ -1,0 +1,4 @@
+pub mod Outcomes
+pub mod Cursor
+pub mod Moves
+pub mod Walked
