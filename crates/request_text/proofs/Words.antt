@@ -59,7 +59,7 @@ lines_are s [] all few = refl
 lines_are s (t ∷ ts) all few = ap (λ w. w ++ flat_map (word_line s.layout) (map (tile_word s) ts)) (line_is s t all.0 few) ∙ ap (λ w. tile_line s.layout t (mask s t) ++ w) (lines_are s ts all.1 few)
 
 -- each tile of an answer has a word
-all_have_words : (scheme : Scheme) (last : ℕ) → last < most_levels scheme → All (HasWord scheme) (all_tiles scheme last)
+pub all_have_words : (scheme : Scheme) (last : ℕ) → last < most_levels scheme → All (HasWord scheme) (all_tiles scheme last)
 all_have_words scheme last low = of_all_tiles (HasWord scheme) scheme last (λ level i within. record {
   is_tile = tile_at_is_tile scheme level i;
   within = omega (arith, tile_at_level scheme level i);
