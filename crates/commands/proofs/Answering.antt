@@ -1,32 +1,40 @@
 -- What was told of files, as what is wanted; and plans that fit.
 use Rattle.std.proofs.Common.{◌≡◌, ℕ, ◌<◌, ◌≤◌, Bool, true, false, List, [], ◌∷◌, ◌++◌, length, refl, sym, ap, subst, ◌∙◌, arith}
-use Rattle.std.specs.Prelude.{Option, Some, None, IfSome, Result, Ok, Err, nat_lt, nat_le, not, ◌^◌, ◌==◌, ◌&&◌, slice_index, map, OnOk}
+use Rattle.std.specs.Prelude.{Option, Some, None, IfSome, Result, Ok, Err, IsTrue, ◌↔◌, if◌then◌else◌, nat_lt, nat_le, not, ◌^◌, ◌==◌, ◌&&◌, slice_index, map, OnOk}
 use Rattle.std.specs.Io.KnownBytes.{Appends, Keeps}
-use Rattle.std.proofs.KnownBytes.{Appends-nil}
-use Rattle.std.proofs.lemmas.Bool.{and_parts, eqb-true}
+use Rattle.std.proofs.KnownBytes.{Appends-nil, Keeps-refl}
+use Rattle.std.proofs.lemmas.Bool.{and_parts, eqb-true, false≢true}
+use Rattle.std.proofs.Math.Nat.{suc-ne-zero}
 use Rattle.implicit_tiling.specs.declared.Scheme.{Scheme}
 use Rattle.implicit_tiling.specs.declared.Scheme.TheVariants.{Quad, Oct}
 use Rattle.implicit_tiling.specs.Limits.{most_levels}
 use Rattle.implicit_tiling.specs.Checks.{refuse, need}
-use Rattle.implicit_tiling.specs.Tile.{axes, depth_of}
+use Rattle.implicit_tiling.specs.Tile.{Tile, axes, depth_of}
 use Rattle.implicit_tiling.specs.Files.{Files}
 use Rattle.implicit_tiling.specs.Region.{Region, Plan, region_of, some_axis}
 use Rattle.implicit_tiling.specs.Request.{Line, plan_of_line, planned, three}
 use Rattle.implicit_tiling.specs.Scene.{Layout, Scene}
 use Rattle.implicit_tiling.specs.Answer.{End, complete, too_many, fault, answer}
 use Rattle.implicit_tiling.specs.Steps.{StepEnd, partial, ended}
-use Rattle.implicit_tiling.specs.Text.{words_text, answer_text}
+use Rattle.implicit_tiling.specs.Checked.{checked}
+use Rattle.implicit_tiling.specs.Text.{words_text, answer_text, checked_text}
 use Rattle.implicit_tileset.specs.Scene.{scene_of}
 use Rattle.scene_ports.specs.Output.{GivesFront}
 use Rattle.tile_coords.specs.declared.walk_end.WalkEnd.{WalkEnd}
 use Rattle.tile_coords.specs.declared.walk_end.WalkEnd.TheVariants.{Partial, Complete, TooMany, Fault}
+use Rattle.tile_coords.specs.declared.walk_end.FoundFault.{FoundFault}
+use Rattle.tile_coords.specs.declared.walk_end.CheckEnd.{CheckEnd}
+use Rattle.request_text.specs.Found.{found_of, end_of_check, found_text}
 use Rattle.tile_coords.specs.Ends.{end_seen}
 use Rattle.tileset_json.specs.Limits.{IsWithinLimits}
 use Rattle.walk_laws.proofs.Regions.{accepted_is_a_region}
+use Rattle.request_text.proofs.Found.{found_make_the_text}
 use Rattle.request_text.proofs.Words.{words_make_the_text}
 use Rattle.commands.specs.declared.status.Status.{Status}
-use Rattle.commands.specs.Replies.{Reply, end_status, walk_status, plan_reply, IsGiven, IsBegun, Replies}
-use Rattle.commands.specs.Pending.{FitsLayout, IsAnswer, tile_word}
+use Rattle.commands.specs.declared.status.Status.TheVariants.{Done, Faulted, Usage, BadLayout, ReadFault, WriteFault, InputFault, Memory, InputLong}
+use Rattle.commands.specs.Words.{Wish}
+use Rattle.commands.specs.Replies.{Reply, end_status, walk_status, found_status, plan_reply, check_reply, layout_in, reply_over, reply_wanted, Agrees, IsGiven, IsBegun, Replies}
+use Rattle.commands.specs.Pending.{FitsLayout, IsAnswer, IsChecked, tile_word}
 
 -- a fact of each list of files that a source tells
 pub of_told : (told : Option Files) (P Q : Files → Type 0) → ((all : Files) → P all → Q all) → IfSome told P → IfSome told Q
@@ -152,3 +160,75 @@ plan_fits layout (Some line) plan h =
       flat_hi = flat_at layout.scheme line.hi plan.region.hi (ap (λ (r : Region). r.hi) is) both.1;
       accepted = accepted_again layout.levels line.level (three line.lo) (three line.hi) plan.region made.0;
     }
+
+-- ---- before anything is given
+
+pub nothing_begun : (wanted : Result Reply Status) (before : Option (List ℕ)) → IsBegun wanted before before
+nothing_begun (Ok reply) before = nothing_given before reply.text
+nothing_begun (Err status) before = Keeps-refl before
+
+bad_layout : (all : Files) (wish : Wish) (wanted : Result Layout Status) (number : ℕ) (before : Option (List ℕ)) → wanted ≡ Err (BadLayout number)
+    → IsGiven (reply_over all wish wanted) before before (BadLayout number)
+bad_layout all wish wanted number before is =
+    let P : Result Layout Status → Type 0 = λ w. IsGiven (reply_over all wish w) before before (BadLayout number) in subst P (sym is) (refl, Keeps-refl before)
+
+-- a layout that isn't there or is faulty ends the program with nothing given
+early_replies : (all : Files) (wish : Wish) (wanted : Result Layout Status) (status : Status) (before : Option (List ℕ)) → Agrees wanted (Err status)
+    → Replies (reply_over all wish wanted) before before status
+early_replies all wish wanted ReadFault before agrees = Keeps-refl before
+early_replies all wish wanted Memory before agrees = nothing_begun (reply_over all wish wanted) before
+early_replies all wish wanted (BadLayout number) before agrees = bad_layout all wish wanted number before agrees
+early_replies all wish wanted WriteFault before agrees = absurd agrees
+early_replies all wish wanted Done before agrees = absurd agrees
+early_replies all wish wanted Faulted before agrees = absurd agrees
+early_replies all wish wanted Usage before agrees = absurd agrees
+early_replies all wish wanted InputFault before agrees = absurd agrees
+early_replies all wish wanted InputLong before agrees = absurd agrees
+
+pub told_early : (told : Option Files) (wish : Wish) (found : Option Wish) (status : Status) (before : Option (List ℕ)) → found ≡ Some wish
+    → IfSome told (λ all. Agrees (layout_in all) (Err status)) → IfSome told (λ all. Replies (reply_wanted all found) before before status)
+told_early told wish found status before is agrees =
+    of_told told (λ all. Agrees (layout_in all) (Err status)) (λ all. Replies (reply_wanted all found) before before status) (λ all h.
+    let P : Option Wish → Type 0 = λ o. Replies (reply_wanted all o) before before status in
+    subst P (sym is) (early_replies all wish (layout_in all) status before h)) agrees
+
+-- ---- the check
+
+pub empty_means : (n : ℕ) (b : Bool) → b ≡ (n == 0) → IsTrue b ↔ (n ≡ 0)
+empty_means n b is = (λ yes. eqb-true n 0 (sym is ∙ yes), λ none. is ∙ ap (λ k. k == 0) none)
+
+status_of_found : (scheme : Scheme) (faults : List (Tile × ℕ)) (seen : List FoundFault) (empty : Bool) (status : Status) → seen ≡ map (found_of scheme) faults
+    → (IsTrue empty ↔ (length seen ≡ 0)) → status ≡ (if empty then Done else Faulted) → status ≡ found_status faults
+status_of_found scheme [] seen true status are is e = e
+status_of_found scheme [] seen false status are is e = absurd (false≢true (is.1 (ap length are)))
+status_of_found scheme (f ∷ faults) seen true status are is e = absurd (suc-ne-zero (length (map (found_of scheme) faults)) (sym (ap length are) ∙ is.0 refl))
+status_of_found scheme (f ∷ faults) seen false status are is e = e
+
+-- the text of a check that was given whole, with its status
+found_replies : (wanted : Result Reply Status) (before now : Option (List ℕ)) (faults : List (Tile × ℕ)) → IsGiven wanted before now (found_status faults) → Replies wanted before now (found_status faults)
+found_replies wanted before now [] h = h
+found_replies wanted before now (f ∷ faults) h = h
+
+-- the text by the words that were found is the text of the check
+check_text_is : (s : Scene) (found : List FoundFault) (end : CheckEnd) → IsChecked s found end → s.layout.levels ≤ most_levels s.layout.scheme
+    → found_text s.layout.scheme found end ≡ checked_text s.layout.scheme (checked s)
+check_text_is s found end is few =
+    ap (λ fs. found_text s.layout.scheme fs end) is.found_are ∙ ap (found_text s.layout.scheme (map (found_of s.layout.scheme) (checked s).faults)) is.end_is ∙ found_make_the_text s few
+
+pub told_checked : (told : Option Files) (layout : Layout) (found : List FoundFault) (end : CheckEnd) (empty : Bool) (status : Status) (before now : Option (List ℕ))
+    → IsWithinLimits layout → IfSome told (λ all. IsChecked (scene_of all layout) found end) → Appends before now (found_text layout.scheme found end)
+    → (IsTrue empty ↔ (length found ≡ 0)) → status ≡ (if empty then Done else Faulted)
+    → IfSome told (λ all. Replies (Ok (check_reply (scene_of all layout))) before now status)
+told_checked told layout found end empty status before now within checks given is_empty is =
+    of_told told (λ all. IsChecked (scene_of all layout) found end) (λ all. Replies (Ok (check_reply (scene_of all layout))) before now status) (λ all h.
+    let s : Scene = scene_of all layout in
+    let whole : Appends before now (checked_text layout.scheme (checked s)) = subst (Appends before now) (check_text_is s found end h within.few_levels) given in
+    let same : status ≡ found_status (checked s).faults = status_of_found layout.scheme (checked s).faults found empty status h.found_are is_empty is in
+    subst (Replies (Ok (check_reply s)) before now) (sym same) (found_replies (Ok (check_reply s)) before now (checked s).faults (refl, whole))) checks
+
+pub told_check_begun : (told : Option Files) (layout : Layout) (found : List FoundFault) (end : CheckEnd) (before now : Option (List ℕ))
+    → IsWithinLimits layout → IfSome told (λ all. IsChecked (scene_of all layout) found end) → GivesFront before now (found_text layout.scheme found end)
+    → IfSome told (λ all. IsBegun (Ok (check_reply (scene_of all layout))) before now)
+told_check_begun told layout found end before now within checks front =
+    of_told told (λ all. IsChecked (scene_of all layout) found end) (λ all. IsBegun (Ok (check_reply (scene_of all layout))) before now) (λ all h.
+    subst (GivesFront before now) (check_text_is (scene_of all layout) found end h within.few_levels) front) checks

@@ -11,7 +11,11 @@ use Rattle.implicit_tiling.specs.Answer.{most_tiles, answer}
 use Rattle.implicit_tiling.specs.Steps.{ended}
 use Rattle.tile_coords.specs.declared.walk_end.WalkEnd.{WalkEnd}
 use Rattle.tile_coords.specs.declared.walk_end.WalkEnd.TheVariants.{Partial, Complete, TooMany, Fault}
+use Rattle.tile_coords.specs.declared.walk_end.FoundFault.{FoundFault}
+use Rattle.tile_coords.specs.declared.walk_end.CheckEnd.{CheckEnd}
 use Rattle.tile_coords.specs.Ends.{end_seen}
+use Rattle.implicit_tiling.specs.Checked.{checked}
+use Rattle.request_text.specs.Found.{found_of, end_of_check}
 
 pub record FitsLayout (layout : Layout) (plan : Plan) : Type 0 where
   pub same_scheme : plan.scheme ≡ layout.scheme
@@ -38,3 +42,7 @@ tile_word s t = word s.layout.scheme t (mask s t)
 pub record IsAnswer (s : Scene) (region : Region) (words : List ℕ) (end : WalkEnd) : Type 0 where
   pub words_are : words ≡ map (tile_word s) (answer s region).tiles
   pub end_is : end_seen s.layout.scheme end ≡ ended (answer s region).end
+
+pub record IsChecked (s : Scene) (found : List FoundFault) (end : CheckEnd) : Type 0 where
+  pub found_are : found ≡ map (found_of s.layout.scheme) (checked s).faults
+  pub end_is : end ≡ end_of_check (checked s)

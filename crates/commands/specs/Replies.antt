@@ -1,5 +1,5 @@
 -- What is written back over given files, and how the program ends (this project's own).
-use Rattle.std.specs.Prelude.{ℕ, ◌≡◌, nat_lt, List, [], ◌∷◌, length, codes, Option, Some, None, Result, Ok, Err, if◌then◌else◌}
+use Rattle.std.specs.Prelude.{ℕ, ◌≡◌, ◌⊎◌, nat_lt, List, [], ◌∷◌, length, codes, Option, Some, None, Result, Ok, Err, if◌then◌else◌}
 use Rattle.std.specs.Io.KnownBytes.{Appends, Keeps}
 use Rattle.implicit_tiling.specs.Limits.{most_file_bytes}
 use Rattle.implicit_tiling.specs.Files.{Files, file}
@@ -100,6 +100,22 @@ Replies wanted before now Usage = IsGiven wanted before now Usage
 Replies wanted before now (BadLayout number) = IsGiven wanted before now (BadLayout number)
 Replies wanted before now InputFault = IsGiven wanted before now InputFault
 Replies wanted before now InputLong = IsGiven wanted before now InputLong
+
+-- the statuses that come before anything is given
+abbrev pub IsBeforeWriting : Status → Type 0
+IsBeforeWriting (BadLayout number) = Unit {0}
+IsBeforeWriting ReadFault = Unit {0}
+IsBeforeWriting InputFault = Unit {0}
+IsBeforeWriting InputLong = Unit {0}
+IsBeforeWriting Memory = ⊥
+IsBeforeWriting WriteFault = ⊥
+IsBeforeWriting Done = ⊥
+IsBeforeWriting Faulted = ⊥
+IsBeforeWriting Usage = ⊥
+
+-- words that ask for nothing are a usage fault, but where there is no memory to read them
+abbrev pub IsRefused : Status → Type 0
+IsRefused status = (status ≡ Usage) ⊎ (status ≡ Memory)
 
 -- the layout that is wanted, but where the source failed or there was no memory
 abbrev pub Agrees : Result Layout Status → Result Layout Status → Type 0

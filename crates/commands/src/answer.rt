@@ -4,7 +4,7 @@ ghost use Rattle.std.specs.Io.KnownBytes.{Keeps};
 ghost use Rattle.implicit_tiling.specs.Text.{refused_text};
 ghost use Rattle.implicit_tileset.specs.Scene.{scene_of};
 ghost use Rattle.scene_ports.specs.Counts.{Rose};
-ghost use Rattle.commands.specs.Replies.{Replies, line_reply, plan_reply, walk_status};
+ghost use Rattle.commands.specs.Replies.{Replies, IsBeforeWriting, line_reply, plan_reply, walk_status};
 ghost use Rattle.commands.specs.Pending.{FitsLayout};
 
 use crate::pending::{WalkStop, fresh};
@@ -24,7 +24,7 @@ pub(crate) fn answer_line<S: FileSource, O: Outlet>(
     out: &mut O,
 ) -> Status
     ensures replies { IfSome (S.told files.old) (λ all. Replies (Ok (line_reply (scene_of all layout.now) line.now)) (O.given out.old) (O.given out.new) result) }
-    ensures nothing { result ≡ Status.ReadFault → Keeps (O.given out.old) (O.given out.new) }
+    ensures nothing { IsBeforeWriting result → Keeps (O.given out.old) (O.given out.new) }
     ensures read_fault { result ≡ Status.ReadFault → Rose (S.faults files.old) (S.faults files.new) }
     ensures write_fault { result ≡ Status.WriteFault → Rose (O.faults out.old) (O.faults out.new) }
     ensures left_aside { O.left_aside out.new ≡ O.left_aside out.old }
@@ -46,7 +46,7 @@ fn answer_plan<S: FileSource, O: Outlet>(
 ) -> Status
     requires { FitsLayout layout.now plan.now }
     ensures replies { IfSome (S.told files.old) (λ all. Replies (Ok (plan_reply (scene_of all layout.now) (Ok plan.now))) (O.given out.old) (O.given out.new) result) }
-    ensures nothing { result ≡ Status.ReadFault → Keeps (O.given out.old) (O.given out.new) }
+    ensures nothing { IsBeforeWriting result → Keeps (O.given out.old) (O.given out.new) }
     ensures read_fault { result ≡ Status.ReadFault → Rose (S.faults files.old) (S.faults files.new) }
     ensures write_fault { result ≡ Status.WriteFault → Rose (O.faults out.old) (O.faults out.new) }
     ensures left_aside { O.left_aside out.new ≡ O.left_aside out.old }
@@ -80,6 +80,7 @@ fn status_of(end: WalkEnd) -> Status
 // Gives the refusal of a line.
 fn refuse<O: Outlet>(alloc: Global, number: u64, out: &mut O) -> Status
     ensures replies { Replies (Ok (record { status = Status.Usage; text = refused_text number })) (O.given out.old) (O.given out.new) result }
+    ensures nothing { IsBeforeWriting result → Keeps (O.given out.old) (O.given out.new) }
     ensures no_read { result ≢ Status.ReadFault }
     ensures write_fault { result ≡ Status.WriteFault → Rose (O.faults out.old) (O.faults out.new) }
     ensures left_aside { O.left_aside out.new ≡ O.left_aside out.old }

@@ -17,7 +17,7 @@ const MISSING: u64 = 1;
 const TOO_LONG: u64 = 2;
 
 /// Fetches `tileset.json` and reads the layout. The `Err` is the status with which the program ends.
-pub fn fetch_layout<S: FileSource>(alloc: Global, files: &mut S) -> Result<Layout, Status>
+pub(crate) fn fetch_layout<S: FileSource>(alloc: Global, files: &mut S) -> Result<Layout, Status>
     ensures agrees { IfSome (S.told files.old) (λ all. Agrees (layout_in all) result) }
     ensures early { IfErr result IsEarly }
     ensures failed { result ≡ Err Status.ReadFault → Rose (S.faults files.old) (S.faults files.new) }

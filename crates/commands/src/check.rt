@@ -1,0 +1,52 @@
+// Checking all subtree files.
+ghost use Rattle.std.specs.Prelude.{◌≡◌, Ok, IfSome, if◌then◌else◌};
+ghost use Rattle.std.specs.Io.KnownBytes.{Keeps};
+ghost use Rattle.implicit_tileset.specs.Scene.{scene_of};
+ghost use Rattle.scene_ports.specs.Counts.{Rose};
+ghost use Rattle.commands.specs.Replies.{Replies, IsBeforeWriting, check_reply};
+
+use crate::pending::{WalkStop, check_all};
+use crate::status::Status;
+use request_text::write_check;
+use scene_ports::{FileSource, GiveFault, Outlet};
+use std::alloc::Global;
+use tileset_json::Layout;
+
+/// Gives the faults of all subtree files that are reached.
+pub(crate) fn answer_check<S: FileSource, O: Outlet>(
+    alloc: Global,
+    layout: &Layout,
+    files: &mut S,
+    out: &mut O,
+) -> Status
+    ensures replies { IfSome (S.told files.old) (λ all. Replies (Ok (check_reply (scene_of all layout.now))) (O.given out.old) (O.given out.new) result) }
+    ensures nothing { IsBeforeWriting result → Keeps (O.given out.old) (O.given out.new) }
+    ensures read_fault { result ≡ Status.ReadFault → Rose (S.faults files.old) (S.faults files.new) }
+    ensures write_fault { result ≡ Status.WriteFault → Rose (O.faults out.old) (O.faults out.new) }
+    ensures left_aside { O.left_aside out.new ≡ O.left_aside out.old }
+    ensures taken_aside { O.taken_aside out.new ≡ O.taken_aside out.old }
+{
+    let scheme = layout.scheme;
+    let mut found = Vec::new(alloc);
+    let end = match check_all(alloc, files, layout, &mut found) {
+        Ok(end) => end,
+        Err(WalkStop::ReadFault) => return Status::ReadFault,
+        Err(WalkStop::Memory) => return Status::Memory,
+    };
+    match write_check(alloc, scheme, &found, end, out) {
+        Ok(()) => status_of(found.is_empty()),
+        Err(GiveFault::WriteFault) => Status::WriteFault,
+        Err(GiveFault::Memory) => Status::Memory,
+    }
+}
+
+// The status of a check whose text was given whole.
+fn status_of(is_good: bool) -> Status
+    ensures { result ≡ if is_good then Status.Done else Status.Faulted }
+{
+    if is_good {
+        Status::Done
+    } else {
+        Status::Faulted
+    }
+}
