@@ -6,11 +6,11 @@ use Rattle.std.proofs.lemmas.List.{take_min, take-map}
 use Rattle.std.proofs.Math.ListN.{drop_of_length-le}
 use Rattle.implicit_tiling.specs.Checks.{need}
 use Rattle.implicit_tiling.specs.Scene.{Layout}
-use Rattle.implicit_tileset.specs.Record.{SubtreeRecord, ContentPart as content_part, Availability as availability, well_formed, malformed}
+use Rattle.implicit_tileset.specs.Record.{SubtreeRecord, Availability as availability, well_formed}
 use Rattle.implicit_tileset.specs.SubtreeFile.{Used, availabilities, wanted_contents, for_nodes, for_children}
 use Rattle.subtree_json.specs.declared.part.ContentPart.{ContentPart}
-use Rattle.subtree_json.specs.declared.part.ContentPart.TheVariants.{Good, Malformed}
-use Rattle.subtree_json.specs.Seen.{content_seen, availability_seen}
+use Rattle.subtree_json.specs.declared.part.ContentPart.TheVariants.{Malformed}
+use Rattle.subtree_json.specs.Seen.{content_seen}
 use Rattle.subtree_file.specs.Decoding.{used_in}
 
 -- what is used of these parts

@@ -1,5 +1,5 @@
 pub mod Contents
-pub mod Tests
+pub mod Items
 pub mod Viewed
 pub mod Steps
 pub mod Whole

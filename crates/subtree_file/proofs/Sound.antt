@@ -1,5 +1,5 @@
 -- What holds of a subtree that has none of the faults: it is one of the layout, and no node is without its parent.
-use Rattle.std.proofs.Common.{◌≡◌, ℕ, ◌%◌, Bool, true, false, List, refl, sym, subst, arith}
+use Rattle.std.proofs.Common.{◌≡◌, ℕ, ◌%◌, Bool, true, false, List, refl, subst, arith}
 use Rattle.std.specs.Prelude.{Option, Some, None, Result, Ok, Err, IfOk}
 use Rattle.std.specs.List.{list_any}
 use Rattle.std.proofs.lemmas.List.{length-map}
@@ -7,8 +7,8 @@ use Rattle.implicit_tiling.specs.Checks.{need, refuse}
 use Rattle.implicit_tiling.specs.Tile.{Tile}
 use Rattle.implicit_tiling.specs.Scene.{Layout}
 use Rattle.implicit_tiling.specs.Subtree.{Subtree, IsOf, has_orphan, has_content_alone}
-use Rattle.implicit_tileset.specs.Record.{SubtreeRecord, Availability}
-use Rattle.implicit_tileset.specs.SubtreeFile.{Held, names_no_view, is_external, is_out, is_short, is_miscounted, wanted_contents, raw_bits, for_nodes, used_of, subtree_from, subtree_checked, subtree_held, subtree_recorded}
+use Rattle.implicit_tileset.specs.Record.{Availability}
+use Rattle.implicit_tileset.specs.SubtreeFile.{Held, names_no_view, is_external, is_out, is_short, is_miscounted, wanted_contents, raw_bits, for_nodes, used_of, subtree_from, subtree_held, subtree_recorded}
 use Rattle.subtree_file.specs.declared.fault.DecodeFault.{DecodeFault}
 use Rattle.subtree_file.specs.Decoding.{Decodes}
 use Rattle.subtree_file.proofs.Whole.{few_wanted}

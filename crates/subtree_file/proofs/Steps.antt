@@ -17,7 +17,7 @@ use Rattle.subtree_file.specs.declared.fault.DecodeFault.{DecodeFault}
 use Rattle.subtree_file.specs.declared.fault.DecodeFault.TheVariants.{Fault, Memory}
 use Rattle.subtree_file.specs.Faults.{bits_fault_number, fault_of_rule, fault_numbered}
 use Rattle.subtree_file.specs.Decoding.{Decodes, DecodesList, IsPlaced, AreUsed, used_in, views_checked, subtree_counted}
-use Rattle.subtree_file.proofs.Tests.{left, right}
+use Rattle.subtree_file.proofs.Items.{left, right}
 
 -- ---- a step that ends with a fault, and one that goes on
 
@@ -48,7 +48,7 @@ four b12 b13 b14 b15 = refuse 12 b12 (refuse 13 b13 (refuse 14 b14 (refuse 15 b1
 
 rows : (b12 b13 b14 b15 b16 : Bool) (s : Subtree)
     → refuse 12 b12 (refuse 13 b13 (refuse 14 b14 (refuse 15 b15 (refuse 16 b16 (subtree_checked s)))))
-      ≡ and_then (four b12 b13 b14 b15) (λ done. and_then (refuse 16 b16 (Ok s)) subtree_checked)
+    ≡ and_then (four b12 b13 b14 b15) (λ done. and_then (refuse 16 b16 (Ok s)) subtree_checked)
 rows true b13 b14 b15 b16 s = refl
 rows false true b14 b15 b16 s = refl
 rows false false true b15 b16 s = refl
@@ -58,8 +58,8 @@ rows false false false false false s = refl
 
 by_contents : (layout : Layout) (root : Tile) (h : Held) (found : Option (List Availability))
     → need 11 found (λ contents. subtree_held layout root h contents (used_of layout h.parts contents))
-      ≡ and_then (need 11 found (λ contents. Ok (used_of layout h.parts contents))) (λ used. and_then (views_checked h used)
-          (λ done. and_then (need 11 found (λ contents. refuse 16 (list_any (is_miscounted h) (used_of layout h.parts contents)) (Ok (subtree_from layout root h contents)))) subtree_checked))
+    ≡ and_then (need 11 found (λ contents. Ok (used_of layout h.parts contents))) (λ used. and_then (views_checked h used)
+    (λ done. and_then (need 11 found (λ contents. refuse 16 (list_any (is_miscounted h) (used_of layout h.parts contents)) (Ok (subtree_from layout root h contents)))) subtree_checked))
 by_contents layout root h None = refl
 by_contents layout root h (Some contents) = rows
     (list_any (λ u. names_no_view h u.availability) (used_of layout h.parts contents))

@@ -1,6 +1,6 @@
 -- The bits of a view, and of all that are used.
-use Rattle.std.proofs.Common.{◌≡◌, ℕ, zero, suc, ◌+◌, ◌*◌, ◌-◌, ◌/◌, ◌<◌, ◌≤◌, Bool, true, false, List, [], ◌∷◌, ◌++◌, length, get_or, take, drop, map, replicate, refl, sym, ap, ◌∙◌, add-one, arith}
-use Rattle.std.specs.Prelude.{Some, Ok, Err, ◌==◌}
+use Rattle.std.proofs.Common.{◌≡◌, ℕ, zero, suc, ◌+◌, ◌*◌, ◌-◌, ◌<◌, ◌≤◌, true, List, [], ◌∷◌, ◌++◌, length, get_or, drop, map, replicate, refl, sym, ap, ◌∙◌, add-one, arith}
+use Rattle.std.specs.Prelude.{Err, ◌==◌}
 use Rattle.std.specs.List.{list_any, range_with_len, slice_range}
 use Rattle.std.proofs.lemmas.List.FromFn.{map-range_with_len_more}
 use Rattle.bitstream.specs.Bits.{bit_of_bytes, bits_of_bytes}
@@ -10,7 +10,7 @@ use Rattle.implicit_tileset.specs.SubtreeFile.{Used, Held, is_miscounted, raw_bi
 use Rattle.subtree_file.specs.declared.fault.DecodeFault.{DecodeFault}
 use Rattle.subtree_file.specs.declared.fault.DecodeFault.TheVariants.{Fault, Memory}
 use Rattle.subtree_file.specs.Decoding.{Decodes, DecodesList, bits_counted, all_counted, bits_of_view}
-use Rattle.subtree_file.proofs.Tests.{any_at, refused, passed}
+use Rattle.subtree_file.proofs.Items.{any_at, refused}
 
 same_range : {X : Type 0} (f g : ℕ → X) (n : ℕ) → ((i : ℕ) → i < n → f i ≡ g i) → map f (range_with_len 0 n) ≡ map g (range_with_len 0 n)
 same_range f g zero same = refl
@@ -33,7 +33,7 @@ bits_of_view-copied binary v offset size needed at enough within =
     let bytes = drop v.offset binary in
     ap (λ k. bits_of_bytes (slice_range binary k (k + size)) needed) (sym at)
     ∙ same_range (bit_of_bytes (slice_range binary v.offset (v.offset + size))) (bit_of_bytes (slice_range binary v.offset (v.offset + v.length))) needed
-        (λ i h. ap (λ d. d == 1) (digit-take (v.offset + size - v.offset) bytes i (omega arith) ∙ sym (digit-take (v.offset + v.length - v.offset) bytes i (omega arith))))
+    (λ i h. ap (λ d. d == 1) (digit-take (v.offset + size - v.offset) bytes i (omega arith) ∙ sym (digit-take (v.offset + v.length - v.offset) bytes i (omega arith))))
 
 -- one that can't be read
 pub all_counted-err : (h : Held) (used : List Used) (i : ℕ) (u : Used) (fault : DecodeFault) → i < length used → u ≡ get_or used i u

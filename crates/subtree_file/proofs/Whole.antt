@@ -1,7 +1,7 @@
 -- A subtree put together of its bits.
-use Rattle.std.proofs.Common.{◌≡◌, ℕ, suc, zero, ◌+◌, ◌-◌, ◌<◌, ◌≤◌, Bool, true, false, List, [], ◌∷◌, ◌++◌, ◌||◌, length, get_or, take, drop, map, refl, sym, ap, subst, ◌∙◌, arith, length-append, ◌⊎◌, inl, inr}
-use Rattle.std.specs.Prelude.{Option, Some, None, option_map, Result, Ok, Err}
-use Rattle.std.specs.List.{list_any, range_with_len, slice_range, All}
+use Rattle.std.proofs.Common.{◌≡◌, ℕ, suc, ◌+◌, ◌-◌, ◌<◌, ◌≤◌, Bool, false, List, [], ◌∷◌, ◌++◌, ◌||◌, length, get_or, take, map, refl, sym, ap, subst, ◌∙◌, arith, length-append}
+use Rattle.std.specs.Prelude.{Option, Some, None, option_map, Ok, Err}
+use Rattle.std.specs.List.{list_any, slice_range, All}
 use Rattle.std.proofs.Math.Seq.{take-append_seam, get_or-append_seam}
 use Rattle.std.proofs.lemmas.List.{length-take, length-map}
 use Rattle.std.proofs.lemmas.List.FromFn.{length-map-range_with_len}
@@ -20,8 +20,8 @@ use Rattle.implicit_tileset.specs.SubtreeFile.{Used, Held, is_miscounted, raw_bi
 use Rattle.tileset_json.specs.Limits.{IsWithinLimits}
 use Rattle.subtree_file.specs.declared.fault.DecodeFault.{DecodeFault}
 use Rattle.subtree_file.specs.declared.fault.DecodeFault.TheVariants.{Fault, Memory}
-use Rattle.subtree_file.specs.Decoding.{Decodes, DecodesList, AreUsed, bits_counted, all_counted, subtree_counted}
-use Rattle.subtree_file.proofs.Tests.{refused, passed}
+use Rattle.subtree_file.specs.Decoding.{Decodes, AreUsed, bits_counted, all_counted, subtree_counted}
+use Rattle.subtree_file.proofs.Items.{refused, passed}
 use Rattle.subtree_file.proofs.Viewed.{all_counted-err}
 
 -- ---- no more contents than templates
@@ -59,7 +59,7 @@ each_long : (h : Held) (layout : Layout) (contents : List Availability)
 each_long h layout [] = All-nil (λ bits. length bits ≡ node_count layout.scheme layout.subtree_levels)
 each_long h layout (a ∷ contents) =
     All-cons (λ bits. length bits ≡ node_count layout.scheme layout.subtree_levels) (raw_bits h (for_nodes layout a)) (map (λ a. raw_bits h (for_nodes layout a)) contents)
-        (length-raw_bits h (for_nodes layout a)) (each_long h layout contents)
+    (length-raw_bits h (for_nodes layout a)) (each_long h layout contents)
 
 pub is_subtree : (layout : Layout) (root : Tile) (h : Held) (contents : List Availability) → IsWithinLimits layout → root.level < layout.levels → IsTile layout.scheme root
     → wanted_contents layout h.parts ≡ Some contents → IsSubtree (subtree_from layout root h contents)
@@ -152,8 +152,8 @@ pub read_is_subtree : (layout inside : Layout) (root : Tile) (h : Held) (content
     → AreRead layout h contents tiles bits child → IsSubtree (made_of inside root tiles bits child)
 read_is_subtree layout inside root h contents tiles bits child same limits below tile are =
     subst IsSubtree
-        (same_subtree layout root h contents tiles bits child are ∙ ap (λ l. made_of l root tiles bits child) (sym same))
-        (is_subtree layout root h contents (subst IsWithinLimits same limits) below tile are.wanted)
+    (same_subtree layout root h contents tiles bits child are ∙ ap (λ l. made_of l root tiles bits child) (sym same))
+    (is_subtree layout root h contents (subst IsWithinLimits same limits) below tile are.wanted)
 
 -- one of them that has another count
 pub counted-err : (layout : Layout) (root : Tile) (h : Held) (used : List Used) (i : ℕ) (u : Used) (fault : DecodeFault)

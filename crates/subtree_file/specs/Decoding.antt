@@ -1,6 +1,6 @@
 -- What the decoding of a subtree file answers, beside what is stated (this project's own).
 use Rattle.std.specs.Prelude.{ℕ, ◌≡◌, ◌≤◌, Bool, false, List, map, Some, Result, Ok, Err, Vec}
-use Rattle.std.specs.List.{list_any, range_with_len, All}
+use Rattle.std.specs.List.{list_any, range_with_len}
 use Rattle.std.specs.declared.alloc.Global.{Global}
 use Rattle.implicit_tiling.specs.Checks.{need, refuse}
 use Rattle.implicit_tiling.specs.Tile.{Tile}

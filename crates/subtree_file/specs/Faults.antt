@@ -1,18 +1,18 @@
 -- The numbers of the faults of a subtree file that its record and its bits show (this project's own).
 use Rattle.std.specs.Prelude.{ℕ, Option, Some, None}
 use Rattle.subtree_file.specs.declared.fault.BitsFault.{BitsFault}
-use Rattle.subtree_file.specs.declared.fault.BitsFault.TheVariants.{MissingView, ExternalBuffer, ViewOutside, ViewTooShort, WrongCount, ParentMissing, ContentWithoutTile}
+use Rattle.subtree_file.specs.declared.fault.BitsFault.TheVariants.{ViewUnknown, ExternalBuffer, ViewOut, BitsShort, CountWrong, ParentMissing, ContentWithoutTile}
 use Rattle.subtree_file.specs.declared.fault.DecodeFault.{DecodeFault}
 use Rattle.subtree_file.specs.declared.fault.DecodeFault.TheVariants.{Fault, Memory}
 use Rattle.availability.specs.declared.subtree.RuleFault.{RuleFault}
 use Rattle.availability.specs.declared.subtree.RuleFault.TheVariants.{ParentMissing as parent_missing, ContentWithoutTile as content_without_tile}
 
 abbrev pub bits_fault_number : BitsFault → ℕ
-bits_fault_number MissingView = 12
+bits_fault_number ViewUnknown = 12
 bits_fault_number ExternalBuffer = 13
-bits_fault_number ViewOutside = 14
-bits_fault_number ViewTooShort = 15
-bits_fault_number WrongCount = 16
+bits_fault_number ViewOut = 14
+bits_fault_number BitsShort = 15
+bits_fault_number CountWrong = 16
 bits_fault_number ParentMissing = 17
 bits_fault_number ContentWithoutTile = 18
 

@@ -33,7 +33,7 @@ pub(crate) fn read_bits(alloc: Global, held: &Held, used: &Used) -> Result<Bits,
 {
     let bits = needed_bits(alloc, held, used)?;
     if is_miscounted(&bits, &used.availability) {
-        return Err(DecodeFault::from(BitsFault::WrongCount));
+        return Err(DecodeFault::from(BitsFault::CountWrong));
     }
     Ok(bits)
 }
@@ -43,7 +43,8 @@ fn is_miscounted(bits: &Bits, availability: &Availability) -> bool
 {
     match availability {
         Availability::Stream {
-            count: Some(count), ..
+            count: Some(count),
+            ..
         } => *count != bits.ones(bits.count()),
         _ => false,
     }
@@ -63,7 +64,12 @@ fn needed_bits(alloc: Global, held: &Held, used: &Used) -> Result<Bits, AllocErr
 }
 
 // The first bits of a view, in a copy of the bytes that they fill.
-fn copied_bits(alloc: Global, binary: &[u8], view: &ViewPart, needed: u64) -> Result<Bits, AllocError>
+fn copied_bits(
+    alloc: Global,
+    binary: &[u8],
+    view: &ViewPart,
+    needed: u64,
+) -> Result<Bits, AllocError>
     requires inside { view.now.offset + view.now.length ≤ length binary.now }
     requires enough { needed ≤ 8 * view.now.length }
     ensures { IfOk result (λ bits. bits ≡ bits_of_view binary.now view.now needed) }

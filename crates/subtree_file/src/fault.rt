@@ -12,15 +12,15 @@ use subtree_json::JsonFault;
 #[derive(Clone, Copy, Debug, PartialEq, Eq)]
 pub enum BitsFault {
     /// A bitstream names a buffer view that isn't there, or one whose buffer isn't.
-    MissingView,
+    ViewUnknown,
     /// The buffer of a view is external: it has a `uri`.
     ExternalBuffer,
     /// A view ends past its buffer, or the buffer past the file's bytes for it.
-    ViewOutside,
+    ViewOut,
     /// A view has fewer bits than are needed.
-    ViewTooShort,
+    BitsShort,
     /// `availableCount` isn't the number of ones among the needed bits.
-    WrongCount,
+    CountWrong,
     /// A node below the local root is there and its parent isn't.
     ParentMissing,
     /// A node has a content and isn't there.
@@ -33,11 +33,11 @@ impl BitsFault {
         ensures { result ≡ bits_fault_number self }
     {
         match self {
-            BitsFault::MissingView => 12,
+            BitsFault::ViewUnknown => 12,
             BitsFault::ExternalBuffer => 13,
-            BitsFault::ViewOutside => 14,
-            BitsFault::ViewTooShort => 15,
-            BitsFault::WrongCount => 16,
+            BitsFault::ViewOut => 14,
+            BitsFault::BitsShort => 15,
+            BitsFault::CountWrong => 16,
             BitsFault::ParentMissing => 17,
             BitsFault::ContentWithoutTile => 18,
         }

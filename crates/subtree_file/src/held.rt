@@ -122,16 +122,16 @@ impl Held<'_> {
         ensures { Decodes (views_checked self.now used.now) result }
     {
         if self.any_names_no_view(used) {
-            return Err(DecodeFault::from(BitsFault::MissingView));
+            return Err(DecodeFault::from(BitsFault::ViewUnknown));
         }
         if self.any_is_external(used) {
             return Err(DecodeFault::from(BitsFault::ExternalBuffer));
         }
         if self.any_is_out(used) {
-            return Err(DecodeFault::from(BitsFault::ViewOutside));
+            return Err(DecodeFault::from(BitsFault::ViewOut));
         }
         if self.any_is_short(used) {
-            return Err(DecodeFault::from(BitsFault::ViewTooShort));
+            return Err(DecodeFault::from(BitsFault::BitsShort));
         }
         Ok(())
     }

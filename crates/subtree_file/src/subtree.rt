@@ -25,7 +25,12 @@ use tileset_json::Layout;
 /// It takes one pass over the JSON and one over the used bits, and memory in proportion to them: of each view that is
 /// used the bytes of the needed bits are copied once. After `Memory` nothing is kept, and the same bytes can be
 /// decoded again.
-pub fn decode(alloc: Global, layout: &Layout, root: Tile, bytes: &[u8]) -> Result<Subtree, DecodeFault>
+pub fn decode(
+    alloc: Global,
+    layout: &Layout,
+    root: Tile,
+    bytes: &[u8],
+) -> Result<Subtree, DecodeFault>
     requires start { root.level % layout.now.subtree_levels ≡ 0 }
     requires below { root.level < layout.now.levels }
     requires tile { IsTile layout.now.scheme root }
@@ -44,7 +49,12 @@ pub fn decode(alloc: Global, layout: &Layout, root: Tile, bytes: &[u8]) -> Resul
 }
 
 // The subtree of a record with the bytes of its internal buffer.
-fn decode_held(alloc: Global, layout: &Layout, root: Tile, held: &Held) -> Result<Subtree, DecodeFault>
+fn decode_held(
+    alloc: Global,
+    layout: &Layout,
+    root: Tile,
+    held: &Held,
+) -> Result<Subtree, DecodeFault>
     requires below { root.level < layout.now.levels }
     requires tile { IsTile layout.now.scheme root }
     ensures { Decodes (subtree_recorded layout.now root held.now.binary held.now.parts) result }
@@ -57,7 +67,13 @@ fn decode_held(alloc: Global, layout: &Layout, root: Tile, held: &Held) -> Resul
 }
 
 // The subtree of the bits that are used: of tiles first, then of contents, last of child subtrees.
-fn read_subtree(alloc: Global, layout: &Layout, root: Tile, held: &Held, used: &[Used]) -> Result<Subtree, DecodeFault>
+fn read_subtree(
+    alloc: Global,
+    layout: &Layout,
+    root: Tile,
+    held: &Held,
+    used: &[Used],
+) -> Result<Subtree, DecodeFault>
     requires below { root.level < layout.now.levels }
     requires tile { IsTile layout.now.scheme root }
     requires used { AreUsed layout.now held.now.parts used.now }

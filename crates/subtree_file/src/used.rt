@@ -26,7 +26,11 @@ impl Model for Used {
 
 // All that are used: of tiles, of as many contents as there are templates, as far as there are availabilities, and of
 // child subtrees. A malformed content past those isn't looked at.
-pub(crate) fn used_of(alloc: Global, layout: &Layout, parts: &SubtreeRecord) -> Result<Vec<Used>, DecodeFault>
+pub(crate) fn used_of(
+    alloc: Global,
+    layout: &Layout,
+    parts: &SubtreeRecord,
+) -> Result<Vec<Used>, DecodeFault>
     ensures { DecodesList (used_in layout.now parts.now) result }
 {
     let nodes = nodes_above(layout.scheme, layout.subtree_levels);

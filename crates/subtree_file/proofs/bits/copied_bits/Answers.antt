@@ -1,4 +1,4 @@
-use Rattle.std.proofs.Common.{◌≡◌, ◌*◌, ◌≤◌, sym, ap, subst, ◌∙◌, rules, arith, List}
+use Rattle.std.proofs.Common.{◌≡◌, sym, ap, subst, ◌∙◌, rules, List}
 use Rattle.std.specs.Prelude.{Option, Bool, IfSome}
 use Rattle.bitstream.specs.Bits.{bits_of_bytes}
 use Rattle.implicit_tileset.specs.Record.{BufferView}
@@ -11,4 +11,4 @@ returns c =
     subst Is c.unwrap.ensures c.of_bytes.ensures.bits
     ∙ ap (λ bytes. bits_of_bytes bytes c.args.needed) c.in_ok-bytes.ensures.items
     ∙ bits_of_view-copied c.args.binary.now c.args.view.now c.view.inside.offset c.div_ceil.result c.args.needed
-        (sym (ap (λ (v : BufferView). v.offset) c.view.view_is)) (search rules) (search rules)
+    (sym (ap (λ (v : BufferView). v.offset) c.view.view_is)) (search rules) (search rules)

@@ -1,4 +1,4 @@
-use Rattle.std.proofs.Common.{◌≡◌, sym, ap, ◌∙◌}
+use Rattle.std.proofs.Common.{sym, ap, ◌∙◌}
 use Rattle.implicit_tileset.specs.SubtreeFile.{raw_bits}
 use Rattle.subtree_json.specs.Seen.{availability_seen}
 use Rattle.subtree_file.proofs.Viewed.{same_everywhere}

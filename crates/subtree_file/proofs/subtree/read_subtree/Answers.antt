@@ -1,6 +1,6 @@
-use Rattle.std.proofs.Common.{◌≡◌, ◌-◌, length, refl, sym, ap, ◌∙◌, rules, arith, map}
-use Rattle.std.specs.Prelude.{Err, Ok}
-use Rattle.implicit_tileset.specs.SubtreeFile.{Used, for_nodes, for_children}
+use Rattle.std.proofs.Common.{◌-◌, length, refl, sym, ap, ◌∙◌, rules, arith, map}
+use Rattle.std.specs.Prelude.{Err}
+use Rattle.implicit_tileset.specs.SubtreeFile.{for_nodes, for_children}
 use Rattle.subtree_file.specs.Decoding.{Decodes, subtree_counted, bits_counted, all_counted}
 use Rattle.subtree_file.proofs.Whole.{AreRead, counted-ok, read_is_subtree, counted-err, first_used, middle_used, last_used, length_used}
 use Rattle.subtree_file.proofs.subtree.read_subtree.Goals as goal
@@ -15,8 +15,8 @@ returns-in_err-child c =
     let ys = map (for_nodes layout) are.contents in
     let z = for_children layout h.parts.child in
     let e : Decodes (subtree_counted layout c.args.root h) (Err c.in_err-child.field-0.0) =
-        counted-err layout c.args.root h used (length used - 1) c.index-used-last.result c.in_err-child.field-0.0 are
-            (omega (arith, length_used x z ys used are.are)) c.index-used-last.is c.in_err-child.ensures in
+    counted-err layout c.args.root h used (length used - 1) c.index-used-last.result c.in_err-child.field-0.0 are
+    (omega (arith, length_used x z ys used are.are)) c.index-used-last.is c.in_err-child.ensures in
     search (rules, e)
 
 pub invariant_of-result : goal.invariant_of-result
@@ -36,7 +36,7 @@ invariant_of-result c =
       of_child = ap (bits_counted h) (sym (c.index-used-last.is ∙ last_used x z ys used last c.index-used-last.result are.are refl)) ∙ c.in_ok-child.ensures;
     } in
     read_is_subtree layout _ c.args.root h are.contents c.in_ok-tiles.tiles c.in_ok-contents.contents.items c.in_ok-child.child
-        c.layout.view_is c.layout.invariant c.requires.below c.requires.tile read
+    c.layout.view_is c.layout.invariant c.requires.below c.requires.tile read
 
 pub returns : goal.returns
 returns c =
