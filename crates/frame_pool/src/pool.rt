@@ -5,6 +5,7 @@ ghost use Rattle.std.specs.List.Sorted.{IsPermutation};
 ghost use Rattle.frame_pool.specs.States.{pins_of};
 ghost use Rattle.frame_pool.specs.Frames.{EachFrame, IsLoadingAt, IsReadyAt, IsPinnedAt, HasKeysOnce};
 ghost use Rattle.frame_pool.specs.Moves.{IsAnswer, after_ask, after_settle, after_unpin};
+ghost use Rattle.frame_pool.specs.declared.frame.Asked.{Asked as asked};
 
 use crate::frame::{Asked, FrameState};
 use crate::order::{holder, move_to_front, victim};
@@ -45,5 +46,79 @@ impl<K: Copy + Eq, V: Drop> Pool<K, V> {
         ensures numbers { IsPermutation (range_with_len 0 (length self.now.census)) self.now.order }
     {
         &self.order
+    }
+}
+
+impl<K: Copy + Eq, V: Drop> Pool<K, V> {
+    /// Asks for the value of the key. A hit is one more pin of its frame, which `unpin` ends. A granted frame waits
+    /// for the value, which `settle` brings. Where another one is loading the key, or every frame is pinned, nothing
+    /// changes.
+    pub fn ask(&mut self, key: K) -> Asked
+        requires { EachFrame (λ state. pins_of state < 2 ^ 32 - 1) self.old.census }
+        ensures answer { IsAnswer K.eq key self.old result }
+        ensures only { (other : asked) → IsAnswer K.eq key self.old other → other ≡ result }
+        ensures after { self.new ≡ after_ask key self.old result }
+    {
+        match holder(&self.census, key) {
+            Some(frame) => match self.census[frame] {
+                FrameState::Ready { key: own, pins } => {
+                    self.census[frame] = FrameState::Ready {
+                        key: own,
+                        pins: pins + 1,
+                    };
+                    move_to_front(&mut self.order, frame as u32);
+                    Asked::Hit(frame as u32)
+                }
+                _ => Asked::Loading,
+            },
+            None => match victim(&self.census, &self.order) {
+                Some(frame) => {
+                    self.census[frame as usize] = FrameState::Loading { key };
+                    self.values[frame as usize] = None;
+                    move_to_front(&mut self.order, frame);
+                    Asked::Granted(frame)
+                }
+                None => Asked::Busy,
+            },
+        }
+    }
+
+    /// Ends the loading of the frame. With a value it is ready, with one pin; without one it is empty.
+    pub fn settle(&mut self, frame: u32, value: Option<V>)
+        requires { IsLoadingAt self.old.census frame }
+        ensures { self.new ≡ after_settle frame value self.old }
+    {
+        let at = frame as usize;
+        let FrameState::Loading { key } = self.census[at] else {
+            unreachable!()
+        };
+        self.census[at] = match &value {
+            Some(_) => FrameState::Ready { key, pins: 1 },
+            None => FrameState::Empty,
+        };
+        self.values[at] = value;
+    }
+
+    /// Ends one pin of the frame.
+    pub fn unpin(&mut self, frame: u32)
+        requires { IsPinnedAt self.old.census frame }
+        ensures { self.new ≡ after_unpin frame self.old }
+    {
+        let at = frame as usize;
+        let FrameState::Ready { key, pins } = self.census[at] else {
+            unreachable!()
+        };
+        self.census[at] = FrameState::Ready {
+            key,
+            pins: pins - 1,
+        };
+    }
+
+    /// The value in the frame.
+    pub fn look(&self, frame: u32) -> &V
+        requires { IsReadyAt self.now.census frame }
+        ensures { slice_get self.now.values frame ≡ Some (Some result.now) }
+    {
+        self.values[frame as usize].as_ref().unwrap()
     }
 }
