@@ -1,2 +1,6 @@
+pub mod Asking
 pub mod Fronts
+pub mod Looks
 pub mod Places
+pub mod Pools
+pub mod Victims

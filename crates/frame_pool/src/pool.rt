@@ -4,7 +4,8 @@ ghost use Rattle.std.specs.List.{range_with_len};
 ghost use Rattle.std.specs.List.Sorted.{IsPermutation};
 ghost use Rattle.frame_pool.specs.States.{pins_of};
 ghost use Rattle.frame_pool.specs.Frames.{EachFrame, IsLoadingAt, IsReadyAt, IsPinnedAt, HasKeysOnce};
-ghost use Rattle.frame_pool.specs.Moves.{IsAnswer, after_ask, after_settle, after_unpin};
+ghost use Rattle.frame_pool.specs.Moves.{IsAnswer, after_ask, after_settle, after_unpin, settled as settled_of};
+ghost use Rattle.frame_pool.specs.declared.frame.FrameState.TheVariants.{Loading as loading};
 ghost use Rattle.frame_pool.specs.declared.frame.Asked.{Asked as asked};
 
 use crate::frame::{Asked, FrameState};
@@ -92,10 +93,7 @@ impl<K: Copy + Eq, V: Drop> Pool<K, V> {
         let FrameState::Loading { key } = self.census[at] else {
             unreachable!()
         };
-        self.census[at] = match &value {
-            Some(_) => FrameState::Ready { key, pins: 1 },
-            None => FrameState::Empty,
-        };
+        self.census[at] = settled(key, &value);
         self.values[at] = value;
     }
 
@@ -120,5 +118,15 @@ impl<K: Copy + Eq, V: Drop> Pool<K, V> {
         ensures { slice_get self.now.values frame ≡ Some (Some result.now) }
     {
         self.values[frame as usize].as_ref().unwrap()
+    }
+}
+
+// What a frame is that was loading the key, once the value has come or has not.
+fn settled<K: Copy + Eq, V: Drop>(key: K, value: &Option<V>) -> FrameState<K>
+    ensures { result ≡ settled_of value.now (loading key) }
+{
+    match value {
+        Some(_) => FrameState::Ready { key, pins: 1 },
+        None => FrameState::Empty,
     }
 }
