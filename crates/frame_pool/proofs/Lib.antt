@@ -1,5 +1,6 @@
 pub mod Asking
 pub mod Fronts
+pub mod Holders
 pub mod Looks
 pub mod Places
 pub mod Pools

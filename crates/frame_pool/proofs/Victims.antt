@@ -72,3 +72,7 @@ module _ {K : Type 0} where
       let place = stands-in_reverse f (length census) order numbers (slice_get_within census f state at) in
       let free = none-found (λ g. is_free_frame (slice_get census g)) (reverse order) none.1 place.0 f place.1 in
       pinned-else state (none-at is_empty census none.0 f state at) (subst (λ o. is_free_frame o ≡ false) at free)
+
+  -- the victim of what was seen
+  pub victim-seen : (census states : List (FrameState K)) (order places : List ℕ) (chosen : Option ℕ) → chosen ≡ victim states places → states ≡ census → places ≡ order → victim census order ≡ chosen
+  victim-seen census states order places chosen is a b = sym (is ∙ ap (λ xs. victim xs places) a ∙ ap (victim census) b)

@@ -1,5 +1,5 @@
 -- Frames as contracts see them: this project's own.
-use Rattle.std.specs.Prelude.{◌≡◌, ℕ, ◌+◌, ◌-◌, ◌^◌, ◌<◌, ◌≤◌, Bool, true, false, List, length, position, find, reverse, slice_get, Option, Some, None}
+use Rattle.std.specs.Prelude.{◌≡◌, ℕ, ◌+◌, ◌-◌, ◌^◌, ◌<◌, ◌≤◌, Bool, true, false, List, length, replicate, position, find, reverse, slice_get, Option, Some, None}
 use Rattle.std.specs.List.{range_with_len}
 use Rattle.std.specs.List.Sorted.{IsPermutation}
 use Rattle.frame_pool.specs.declared.frame.FrameState.{FrameState}
@@ -62,3 +62,7 @@ pub record IsPool {K V : Type 0} (eq : K → K → Bool) (census : List (FrameSt
   pub keys : HasKeysOnce eq census
   pub filled : HasValues census values
   pub numbers : IsPermutation (range_with_len 0 (length census)) order
+
+-- n empty frames, in the order of their numbers
+abbrev pub empty_frames : {K V : Type 0} → ℕ → Frames K V
+empty_frames n = record { census = replicate n Empty; values = replicate n None; order = range_with_len 0 n }

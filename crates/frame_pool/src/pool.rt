@@ -3,9 +3,9 @@ ghost use Rattle.std.specs.Prelude.{◌≡◌, ◌-◌, ◌^◌, ◌<◌, ◌≤
 ghost use Rattle.std.specs.List.{range_with_len};
 ghost use Rattle.std.specs.List.Sorted.{IsPermutation};
 ghost use Rattle.frame_pool.specs.States.{pins_of};
-ghost use Rattle.frame_pool.specs.Frames.{EachFrame, IsLoadingAt, IsReadyAt, IsPinnedAt, HasKeysOnce};
+ghost use Rattle.frame_pool.specs.Frames.{EachFrame, IsLoadingAt, IsReadyAt, IsPinnedAt, HasKeysOnce, empty_frames};
 ghost use Rattle.frame_pool.specs.Moves.{IsAnswer, after_ask, after_settle, after_unpin, settled as settled_of};
-ghost use Rattle.frame_pool.specs.declared.frame.FrameState.TheVariants.{Loading as loading};
+ghost use Rattle.frame_pool.specs.declared.frame.FrameState.TheVariants.{Empty as empty, Loading as loading};
 ghost use Rattle.frame_pool.specs.declared.frame.Asked.{Asked as asked};
 
 use crate::frame::{Asked, FrameState};
@@ -129,4 +129,50 @@ fn settled<K: Copy + Eq, V: Drop>(key: K, value: &Option<V>) -> FrameState<K>
         Some(_) => FrameState::Ready { key, pins: 1 },
         None => FrameState::Empty,
     }
+}
+
+impl<K: Copy + Eq, V: Drop> Pool<K, V> {
+    /// A pool of this many empty frames, in the order of their numbers. All memory of the pool is taken here; an
+    /// error is want of it.
+    pub fn new(alloc: Global, frames: usize) -> Result<Pool<K, V>, AllocError>
+        requires { (1 ≤ frames) × (frames ≤ 1024) }
+        ensures { IfOk result (λ pool. pool ≡ empty_frames frames) }
+    {
+        Ok(Pool {
+            census: empty_states(alloc, frames)?,
+            values: no_values(alloc, frames)?,
+            order: numbers(alloc, frames)?,
+        })
+    }
+}
+
+fn empty_states<K: Copy + Eq>(alloc: Global, frames: usize) -> Result<Vec<FrameState<K>>, AllocError>
+    ensures { IfOk result (λ states. states.items ≡ replicate frames empty) }
+{
+    let mut states = Vec::with_capacity(alloc, frames)?;
+    for _ in 0..frames {
+        states.push(FrameState::Empty)?;
+    }
+    Ok(states)
+}
+
+fn no_values<V: Drop>(alloc: Global, frames: usize) -> Result<Vec<Option<V>>, AllocError>
+    ensures { IfOk result (λ values. values.items ≡ replicate frames None) }
+{
+    let mut values = Vec::with_capacity(alloc, frames)?;
+    for _ in 0..frames {
+        values.push(None)?;
+    }
+    Ok(values)
+}
+
+fn numbers(alloc: Global, frames: usize) -> Result<Vec<u32>, AllocError>
+    requires { frames ≤ 1024 }
+    ensures { IfOk result (λ order. order.items ≡ range_with_len 0 frames) }
+{
+    let mut order = Vec::with_capacity(alloc, frames)?;
+    for frame in 0..frames {
+        order.push(frame as u32)?;
+    }
+    Ok(order)
 }
