@@ -1,5 +1,5 @@
 -- An order in which a number stands once, and the same order with that number at its front.
-use Rattle.std.proofs.Common.{◌≡◌, ℕ, zero, suc, ◌+◌, ◌-◌, ◌<◌, ◌≤◌, Bool, true, false, not, cond, eqb, List, [], ◌∷◌, ◌++◌, length, count_by, filter, position, take, drop, slice_set, Some, None, refl, sym, ap, ◌∙◌, subst, ⊎_elim, zero-add, arith}
+use Rattle.std.proofs.Common.{◌≡◌, ℕ, zero, suc, ◌+◌, ◌-◌, ◌<◌, ◌≤◌, Bool, true, false, not, cond, eqb, List, [], ◌∷◌, ◌++◌, length, count_by, filter, position, take, drop, slice_set, Some, None, refl, sym, ap, ◌∙◌, subst, ⊎_elim, zero-add, add-zero, add-one, arith}
 use Rattle.std.specs.List.{prefix_len, range_with_len}
 use Rattle.std.specs.List.Sorted.{IsPermutation}
 use Rattle.std.proofs.lemmas.List.Sums.{length-filter, sum_by-cons}
@@ -102,3 +102,11 @@ pub order-asked_last : (f n : ℕ) (order : List ℕ) → IsPermutation (range_w
 order-asked_last f n order numbers h =
     IsPermutation-trans (range_with_len 0 n) order (asked_last f order) numbers
       (permutation-asked_last f order (length-filter (λ g. eqb g f) order ∙ count-order f n order numbers h))
+
+-- one number more
+pub range-suc : (a n : ℕ) → range_with_len a (suc n) ≡ range_with_len a n ++ (a + n) ∷ []
+range-suc a zero = ap (λ k. k ∷ []) (sym (add-zero a))
+range-suc a (suc n) = let same : a + 1 + n ≡ a + suc n = omega arith in ap (λ ks. a ∷ ks) (range-suc (a + 1) n ∙ ap (λ k. range_with_len (a + 1) n ++ k ∷ []) same)
+
+pub range-more : (n : ℕ) → range_with_len 0 (n + 1) ≡ range_with_len 0 n ++ n ∷ []
+range-more n = ap (range_with_len 0) (add-one n) ∙ range-suc 0 n ∙ ap (λ k. range_with_len 0 n ++ k ∷ []) (zero-add n)
