@@ -162,22 +162,3 @@ module _ {K V : Type 0} (eq : K → K → Bool) where
     pub IsPool-settled : (key : K) (value : Option V) → slice_get census f ≡ Some (Loading key) → IsPool eq (set census f (settled value (Loading key))) (set values f value) order
     IsPool-settled key None at = IsPool-emptied key at
     IsPool-settled key (Some value) at = IsPool-filled key value at
-
--- what stands in a list of one element again and again
-get-replicate : {A : Type 0} (n f : ℕ) (x y : A) → slice_get (replicate n x) f ≡ Some y → x ≡ y
-get-replicate zero f x y e = absurd (none-some y e)
-get-replicate (suc n) zero x y e = same_Some x y e
-get-replicate (suc n) (suc f) x y e = get-replicate n f x y e
-
--- a pool of empty frames
-pub IsPool-empty : {K V : Type 0} (eq : K → K → Bool) (n : ℕ) → 1 ≤ n → n ≤ 1024 → IsPool {V = V} eq (replicate n Empty) (replicate n None) (range_with_len 0 n)
-IsPool-empty {K} {V} eq n some most =
-    let many : length (replicate {A = FrameState K} n Empty) ≡ n = length-replicate {A = FrameState K} n Empty in
-    record {
-      some = subst (λ k. 1 ≤ k) (sym many) some;
-      most = subst (λ k. k ≤ 1024) (sym many) most;
-      places = length-replicate {A = Option V} n None ∙ sym many;
-      keys = λ key f g one other here there has too. absurd (both_ways (has_key eq key one) (ap (has_key eq key) (sym (get-replicate {A = FrameState K} n f Empty one here))) has);
-      filled = λ f (key, pins, here). let same = get-replicate {A = FrameState K} n f Empty (Ready key pins) here in cc;
-      numbers = subst (λ k. IsPermutation (range_with_len 0 k) (range_with_len 0 n)) (sym many) (IsPermutation-refl (range_with_len 0 n));
-    }

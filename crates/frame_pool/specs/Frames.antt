@@ -4,7 +4,7 @@ use Rattle.std.specs.List.{range_with_len}
 use Rattle.std.specs.List.Sorted.{IsPermutation}
 use Rattle.frame_pool.specs.declared.frame.FrameState.{FrameState}
 use Rattle.frame_pool.specs.declared.frame.FrameState.TheVariants.{Empty, Loading, Ready}
-use Rattle.frame_pool.specs.States.{has_key, is_empty, is_free}
+use Rattle.frame_pool.specs.States.{has_key, is_empty, is_free, is_pinned, key_of}
 
 -- the state of each frame, its value, and the numbers of the frames, the last asked first
 pub record Frames (K V : Type 0) : Type 0 where
@@ -66,3 +66,8 @@ pub record IsPool {K V : Type 0} (eq : K → K → Bool) (census : List (FrameSt
 -- n empty frames, in the order of their numbers
 abbrev pub empty_frames : {K V : Type 0} → ℕ → Frames K V
 empty_frames n = record { census = replicate n Empty; values = replicate n None; order = range_with_len 0 n }
+
+-- a frame that is pinned has the same key and the same value in both
+abbrev pub KeepsPinned : {K V : Type 0} → Frames K V → Frames K V → Type 0
+KeepsPinned {K} old new = (f : ℕ) (state : FrameState K) → slice_get old.census f ≡ Some state → is_pinned state ≡ true
+  → (later : FrameState K) × (slice_get new.census f ≡ Some later) × (is_pinned later ≡ true) × (key_of later ≡ key_of state) × (slice_get new.values f ≡ slice_get old.values f)

@@ -34,3 +34,8 @@ abbrev pub pins_of : {K : Type 0} → FrameState K → ℕ
 pins_of Empty = 0
 pins_of (Loading key) = 0
 pins_of (Ready key pins) = pins
+
+abbrev pub key_of : {K : Type 0} → FrameState K → Option K
+key_of Empty = None
+key_of (Loading key) = Some key
+key_of (Ready key pins) = Some key

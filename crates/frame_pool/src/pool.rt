@@ -3,7 +3,7 @@ ghost use Rattle.std.specs.Prelude.{◌≡◌, ◌-◌, ◌^◌, ◌<◌, ◌≤
 ghost use Rattle.std.specs.List.{range_with_len};
 ghost use Rattle.std.specs.List.Sorted.{IsPermutation};
 ghost use Rattle.frame_pool.specs.States.{pins_of};
-ghost use Rattle.frame_pool.specs.Frames.{EachFrame, IsLoadingAt, IsReadyAt, IsPinnedAt, HasKeysOnce, empty_frames};
+ghost use Rattle.frame_pool.specs.Frames.{EachFrame, IsLoadingAt, IsReadyAt, IsPinnedAt, HasKeysOnce, KeepsPinned, empty_frames};
 ghost use Rattle.frame_pool.specs.Moves.{IsAnswer, after_ask, after_settle, after_unpin, settled as settled_of};
 ghost use Rattle.frame_pool.specs.declared.frame.FrameState.TheVariants.{Empty as empty, Loading as loading};
 ghost use Rattle.frame_pool.specs.declared.frame.Asked.{Asked as asked};
@@ -59,6 +59,7 @@ impl<K: Copy + Eq, V: Drop> Pool<K, V> {
         ensures answer { IsAnswer K.eq key self.old result }
         ensures only { (other : asked) → IsAnswer K.eq key self.old other → other ≡ result }
         ensures after { self.new ≡ after_ask key self.old result }
+        ensures pinned { KeepsPinned self.old self.new }
     {
         match holder(&self.census, key) {
             Some(frame) => match self.census[frame] {

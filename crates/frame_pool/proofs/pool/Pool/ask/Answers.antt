@@ -5,10 +5,11 @@ use Rattle.frame_pool.specs.declared.frame.FrameState.{FrameState}
 use Rattle.frame_pool.specs.declared.frame.FrameState.TheVariants.{Ready, Loading}
 use Rattle.frame_pool.specs.declared.frame.Asked.TheVariants.{Hit, Granted, Loading as Waiting, Busy}
 use Rattle.frame_pool.specs.States.{pins_of}
-use Rattle.frame_pool.specs.Frames.{Frames, IsPool, EachFrame, HasKeysOnce, victim}
+use Rattle.frame_pool.specs.Frames.{Frames, IsPool, EachFrame, HasKeysOnce, KeepsPinned, victim}
 use Rattle.frame_pool.specs.Moves.{IsAnswer, pinned, after_ask, asked_last}
 use Rattle.frame_pool.proofs.Asking.{one_answer}
 use Rattle.frame_pool.proofs.Holders.{ready-at, loading-at, none-has, front-written}
+use Rattle.frame_pool.proofs.Keeping.{keeps_pinned}
 use Rattle.frame_pool.proofs.Pools.{IsPool-pins, IsPool-front, IsPool-loading, once-in_order, changed-at}
 use Rattle.frame_pool.proofs.Victims.{victim-inside, victim-seen, all_pinned}
 use Rattle.frame_pool.proofs.pool.Pool.ask.Goals as goal
@@ -42,12 +43,7 @@ returns-in-Ready-clause-answer g c =
     subst (λ (p : Frames g.row.K.Denot g.row.V.Denot). IsAnswer g.K.PartialEq.eq c.args.key p (Hit c.in-Some.frame)) c.self.view_is (c.in-Ready.own, c.in-Ready.pins, ready.0, ready.1)
 
 pub returns-in-Ready-clause-only : goal.returns-in-Ready-clause-only
-returns-in-Ready-clause-only g c other h =
-    let ready = ready-at g.K.PartialEq.eq c.args.key c.self.inside.census.items c.deref.result.now c.in-Some.frame c.index.result.now c.in-Ready.own c.in-Ready.pins c.in-Some.ensures c.deref.ensures.value c.index.ensures c.in-Ready.is in
-    one_answer g.K.PartialEq.eq c.args.key c.args.self.now
-      (subst (λ (p : Frames g.row.K.Denot g.row.V.Denot). HasKeysOnce g.K.PartialEq.eq p.census) c.self.view_is c.self.invariant.keys)
-      other (Hit c.in-Some.frame) h
-      (subst (λ (p : Frames g.row.K.Denot g.row.V.Denot). IsAnswer g.K.PartialEq.eq c.args.key p (Hit c.in-Some.frame)) c.self.view_is (c.in-Ready.own, c.in-Ready.pins, ready.0, ready.1))
+returns-in-Ready-clause-only g c other h = one_answer g.K.PartialEq.eq c.args.key c.args.self.now (subst (λ (p : Frames g.row.K.Denot g.row.V.Denot). HasKeysOnce g.K.PartialEq.eq p.census) c.self.view_is c.self.invariant.keys) other (Hit c.in-Some.frame) h (returns-in-Ready-clause-answer g c)
 
 pub returns-in-Ready-clause-after : goal.returns-in-Ready-clause-after
 returns-in-Ready-clause-after g c =
@@ -67,10 +63,7 @@ returns-in_default-clause-answer g c =
     answer
 
 pub returns-in_default-clause-only : goal.returns-in_default-clause-only
-returns-in_default-clause-only g c other h =
-    let loading = loading-at g.K.PartialEq.eq c.args.key c.self.inside.census.items c.deref.result.now c.in-Some.frame c.index.result.now c.in-Some.ensures c.deref.ensures.value c.index.ensures c.in_default.not-Ready in
-    let answer = subst (λ (p : Frames g.row.K.Denot g.row.V.Denot). IsAnswer g.K.PartialEq.eq c.args.key p Waiting) c.self.view_is (c.in-Some.frame, loading.0, loading.1, loading.2) in
-    one_answer g.K.PartialEq.eq c.args.key c.args.self.now (subst (λ (p : Frames g.row.K.Denot g.row.V.Denot). HasKeysOnce g.K.PartialEq.eq p.census) c.self.view_is c.self.invariant.keys) other Waiting h answer
+returns-in_default-clause-only g c other h = one_answer g.K.PartialEq.eq c.args.key c.args.self.now (subst (λ (p : Frames g.row.K.Denot g.row.V.Denot). HasKeysOnce g.K.PartialEq.eq p.census) c.self.view_is c.self.invariant.keys) other Waiting h (returns-in_default-clause-answer g c)
 
 pub index_mut-requires-in-Some-victim : goal.index_mut-requires-in-Some-victim
 index_mut-requires-in-Some-victim g c =
@@ -106,15 +99,29 @@ returns-in-Some-victim-clause-answer g c =
     subst (λ (p : Frames g.row.K.Denot g.row.V.Denot). IsAnswer g.K.PartialEq.eq c.args.key p (Granted c.in-Some-victim.frame)) c.self.view_is (none-has g.K.PartialEq.eq c.args.key c.self.inside.census.items c.deref.result.now c.in-None.ensures c.deref.ensures.value, victim-seen c.self.inside.census.items c.deref-in-None.result.now c.self.inside.order.items c.deref-in-None-2.result.now (Some c.in-Some-victim.frame) c.in-Some-victim.ensures c.deref-in-None.ensures.value c.deref-in-None-2.ensures.value)
 
 pub returns-in-Some-victim-clause-only : goal.returns-in-Some-victim-clause-only
-returns-in-Some-victim-clause-only g c other h =
-    one_answer g.K.PartialEq.eq c.args.key c.args.self.now (subst (λ (p : Frames g.row.K.Denot g.row.V.Denot). HasKeysOnce g.K.PartialEq.eq p.census) c.self.view_is c.self.invariant.keys) other (Granted c.in-Some-victim.frame) h
-      (subst (λ (p : Frames g.row.K.Denot g.row.V.Denot). IsAnswer g.K.PartialEq.eq c.args.key p (Granted c.in-Some-victim.frame)) c.self.view_is (none-has g.K.PartialEq.eq c.args.key c.self.inside.census.items c.deref.result.now c.in-None.ensures c.deref.ensures.value, victim-seen c.self.inside.census.items c.deref-in-None.result.now c.self.inside.order.items c.deref-in-None-2.result.now (Some c.in-Some-victim.frame) c.in-Some-victim.ensures c.deref-in-None.ensures.value c.deref-in-None-2.ensures.value))
+returns-in-Some-victim-clause-only g c other h = one_answer g.K.PartialEq.eq c.args.key c.args.self.now (subst (λ (p : Frames g.row.K.Denot g.row.V.Denot). HasKeysOnce g.K.PartialEq.eq p.census) c.self.view_is c.self.invariant.keys) other (Granted c.in-Some-victim.frame) h (returns-in-Some-victim-clause-answer g c)
 
 pub returns-in-None-victim-clause-answer : goal.returns-in-None-victim-clause-answer
 returns-in-None-victim-clause-answer g c =
     subst (λ (p : Frames g.row.K.Denot g.row.V.Denot). IsAnswer g.K.PartialEq.eq c.args.key p Busy) c.self.view_is (none-has g.K.PartialEq.eq c.args.key c.self.inside.census.items c.deref.result.now c.in-None.ensures c.deref.ensures.value, all_pinned c.self.inside.census.items c.self.inside.order.items c.self.invariant.numbers (victim-seen c.self.inside.census.items c.deref-in-None.result.now c.self.inside.order.items c.deref-in-None-2.result.now None c.in-None-victim.ensures c.deref-in-None.ensures.value c.deref-in-None-2.ensures.value))
 
 pub returns-in-None-victim-clause-only : goal.returns-in-None-victim-clause-only
-returns-in-None-victim-clause-only g c other h =
-    one_answer g.K.PartialEq.eq c.args.key c.args.self.now (subst (λ (p : Frames g.row.K.Denot g.row.V.Denot). HasKeysOnce g.K.PartialEq.eq p.census) c.self.view_is c.self.invariant.keys) other Busy h
-      (subst (λ (p : Frames g.row.K.Denot g.row.V.Denot). IsAnswer g.K.PartialEq.eq c.args.key p Busy) c.self.view_is (none-has g.K.PartialEq.eq c.args.key c.self.inside.census.items c.deref.result.now c.in-None.ensures c.deref.ensures.value, all_pinned c.self.inside.census.items c.self.inside.order.items c.self.invariant.numbers (victim-seen c.self.inside.census.items c.deref-in-None.result.now c.self.inside.order.items c.deref-in-None-2.result.now None c.in-None-victim.ensures c.deref-in-None.ensures.value c.deref-in-None-2.ensures.value)))
+returns-in-None-victim-clause-only g c other h = one_answer g.K.PartialEq.eq c.args.key c.args.self.now (subst (λ (p : Frames g.row.K.Denot g.row.V.Denot). HasKeysOnce g.K.PartialEq.eq p.census) c.self.view_is c.self.invariant.keys) other Busy h (returns-in-None-victim-clause-answer g c)
+
+pub returns-in-Some-victim-clause-after : goal.returns-in-Some-victim-clause-after
+returns-in-Some-victim-clause-after g c =
+    let inside = victim-inside c.self.inside.census.items c.self.inside.order.items c.in-Some-victim.frame (victim-seen c.self.inside.census.items c.deref-in-None.result.now c.self.inside.order.items c.deref-in-None-2.result.now (Some c.in-Some-victim.frame) c.in-Some-victim.ensures c.deref-in-None.ensures.value c.deref-in-None-2.ensures.value) in
+    let once = once-in_order g.K.PartialEq.eq c.self.inside.census.items c.self.inside.values.items c.self.inside.order.items c.in-Some-victim.frame c.self.invariant inside in
+    let front = front-written c.self.inside.order.len c.in-Some-victim.frame c.self.inside.order.items c.deref_mut-in-Some-victim.result.now c.move_to_front-in-Some-victim.new.order c.self.inside.order.ok.0 once c.deref_mut-in-Some-victim.ensures.value c.move_to_front-in-Some-victim.ensures in
+    ap (λ (xs : List ℕ). let after : Frames g.row.K.Denot g.row.V.Denot = record { census = set c.self.inside.census.items c.in-Some-victim.frame (Loading c.args.key); values = set c.self.inside.values.items c.in-Some-victim.frame None; order = xs } in after) front
+    ∙ ap (λ (p : Frames g.row.K.Denot g.row.V.Denot). after_ask c.args.key p (Granted c.in-Some-victim.frame)) c.self.view_is
+
+pub returns-in-Ready-clause-pinned : goal.returns-in-Ready-clause-pinned
+returns-in-Ready-clause-pinned g c =
+    subst (λ (p : Frames g.row.K.Denot g.row.V.Denot). KeepsPinned c.args.self.now p) (sym (returns-in-Ready-clause-after g c))
+      (keeps_pinned g.K.PartialEq.eq c.args.key c.args.self.now (Hit c.in-Some.frame) (returns-in-Ready-clause-answer g c))
+
+pub returns-in-Some-victim-clause-pinned : goal.returns-in-Some-victim-clause-pinned
+returns-in-Some-victim-clause-pinned g c =
+    subst (λ (p : Frames g.row.K.Denot g.row.V.Denot). KeepsPinned c.args.self.now p) (sym (returns-in-Some-victim-clause-after g c))
+      (keeps_pinned g.K.PartialEq.eq c.args.key c.args.self.now (Granted c.in-Some-victim.frame) (returns-in-Some-victim-clause-answer g c))
