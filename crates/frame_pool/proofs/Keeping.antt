@@ -1,5 +1,5 @@
 -- What is pinned keeps its key and its value while others ask.
-use Rattle.std.proofs.Common.{◌≡◌, ◌≢◌, ◌∙◌, ℕ, zero, suc, ◌+◌, ◌<◌, ◌≤◌, ◌⊎◌, inl, inr, Bool, true, false, not, List, length, set, Option, Some, None, refl, sym, ap, subst, ⊎_elim, add-one, arith}
+use Rattle.std.proofs.Common.{◌≡◌, ◌≢◌, ◌∙◌, ℕ, zero, suc, ◌+◌, ◌<◌, ◌≤◌, ◌⊎◌, inl, inr, Bool, true, false, not, List, length, set, Option, Some, None, refl, sym, ap, subst, IfSome, ⊎_elim, add-one, arith}
 use Rattle.std.specs.List.{slice_get}
 use Rattle.std.proofs.lemmas.Option.{slice_get_within, same_Some}
 use Rattle.std.proofs.lemmas.Bool.{both_ways, cases_eq}
@@ -8,8 +8,8 @@ use Rattle.frame_pool.specs.declared.frame.FrameState.TheVariants.{Empty, Loadin
 use Rattle.frame_pool.specs.declared.frame.Asked.{Asked}
 use Rattle.frame_pool.specs.declared.frame.Asked.TheVariants.{Hit, Granted, Loading as Waiting, Busy}
 use Rattle.frame_pool.specs.States.{is_pinned, is_zero, key_of}
-use Rattle.frame_pool.specs.Frames.{Frames, KeepsPinned}
-use Rattle.frame_pool.specs.Moves.{IsAnswer, after_ask, changed, pinned}
+use Rattle.frame_pool.specs.Frames.{Frames, IsLoadingAt, IsPinnedAt, KeepsPinned}
+use Rattle.frame_pool.specs.Moves.{IsAnswer, MayGoOn, after_ask, after_settle, changed, pinned, settled}
 use Rattle.frame_pool.proofs.Places.{get-set_same, get-set_other}
 use Rattle.frame_pool.proofs.Pools.{changed-at}
 use Rattle.frame_pool.proofs.Victims.{victim-unpinned}
@@ -42,3 +42,23 @@ module _ {K V : Type 0} (eq : K → K → Bool) (key : K) (frames : Frames K V) 
   keeps_pinned (Granted f) h = let at = victim-unpinned frames.census frames.order f h.1 in keeps-granted f at.0 at.1 at.2
   keeps_pinned Waiting h = λ g state here is. (state, here, is, refl, refl)
   keeps_pinned Busy h = λ g state here is. (state, here, is, refl, refl)
+
+  -- the frame that was hit is pinned, and the one that was granted is loading
+  pub may_go_on : (answer : Asked) → IsAnswer eq key frames answer → MayGoOn answer (after_ask key frames answer).census
+  may_go_on (Hit f) h =
+      (h.0, h.1 + 1, ap (λ xs. slice_get xs f) (changed-at frames.census f (Ready h.0 h.1) pinned h.2) ∙ get-set_same frames.census f (Ready h.0 (h.1 + 1)) (slice_get_within frames.census f (Ready h.0 h.1) h.2), omega arith)
+  may_go_on (Granted f) h =
+      let at = victim-unpinned frames.census frames.order f h.1 in
+      (key, ap (λ xs. slice_get xs f) (changed-at frames.census f at.0 (λ _. Loading key) at.1) ∙ get-set_same frames.census f (Loading key) (slice_get_within frames.census f at.0 at.1))
+  may_go_on Waiting h = tt
+  may_go_on Busy h = tt
+
+module _ {K V : Type 0} where
+  -- a frame that was settled with a value is pinned
+  pub settled-pinned : (frames : Frames K V) (f : ℕ) (value : V) → IsLoadingAt frames.census f → IsPinnedAt (after_settle f (Some value) frames).census f
+  settled-pinned frames f value (key, at) =
+      (key, 1, ap (λ xs. slice_get xs f) (changed-at frames.census f (Loading key) (settled (Some value)) at) ∙ get-set_same frames.census f (Ready key 1) (slice_get_within frames.census f (Loading key) at), omega arith)
+
+  pub settled-going_on : (frames : Frames K V) (f : ℕ) (value : Option V) → IsLoadingAt frames.census f → IfSome value (λ _. IsPinnedAt (after_settle f value frames).census f)
+  settled-going_on frames f None h = tt
+  settled-going_on frames f (Some value) h = settled-pinned frames f value h

@@ -1,11 +1,11 @@
 -- What a pool answers, and what each call leaves: this project's own.
-use Rattle.std.specs.Prelude.{◌≡◌, ℕ, ◌+◌, ◌-◌, ◌<◌, Bool, true, false, not, eqb, List, [], ◌∷◌, length, filter, slice_get, slice_index_or, slice_set, Option, Some, None}
+use Rattle.std.specs.Prelude.{◌≡◌, ℕ, ◌+◌, ◌-◌, ◌<◌, Bool, true, false, not, eqb, List, [], ◌∷◌, length, filter, slice_get, slice_index_or, slice_set, Option, Some, None, ⊤}
 use Rattle.frame_pool.specs.declared.frame.FrameState.{FrameState}
 use Rattle.frame_pool.specs.declared.frame.FrameState.TheVariants.{Empty, Loading, Ready}
 use Rattle.frame_pool.specs.declared.frame.Asked.{Asked}
 use Rattle.frame_pool.specs.declared.frame.Asked.TheVariants.{Hit, Granted, Loading as Waiting, Busy}
-use Rattle.frame_pool.specs.States.{has_key, is_pinned, pins_of}
-use Rattle.frame_pool.specs.Frames.{Frames, EachFrame, IsReadyAt, victim}
+use Rattle.frame_pool.specs.States.{has_key, is_pinned}
+use Rattle.frame_pool.specs.Frames.{Frames, EachFrame, IsLoadingAt, IsPinnedAt, victim}
 
 -- no frame has the key
 abbrev pub NoneHas : {K : Type 0} → (K → K → Bool) → K → List (FrameState K) → Type 0
@@ -60,3 +60,10 @@ after_settle f value frames = record { census = changed f (settled value) frames
 -- the frames after frame f has lost a pin
 abbrev pub after_unpin : {K V : Type 0} → ℕ → Frames K V → Frames K V
 after_unpin f frames = record { census = changed f unpinned frames.census; values = frames.values; order = frames.order }
+
+-- what the one who asked may do next: use and unpin the frame that was hit, settle the one that was granted
+abbrev pub MayGoOn : {K : Type 0} → Asked → List (FrameState K) → Type 0
+MayGoOn (Hit f) census = IsPinnedAt census f
+MayGoOn (Granted f) census = IsLoadingAt census f
+MayGoOn Waiting census = ⊤
+MayGoOn Busy census = ⊤

@@ -1,10 +1,10 @@
 //! The pool and its calls.
-ghost use Rattle.std.specs.Prelude.{◌≡◌, ◌-◌, ◌^◌, ◌<◌, ◌≤◌, ℕ, length, replicate, slice_get, IfOk, Some, None};
+ghost use Rattle.std.specs.Prelude.{◌≡◌, ◌-◌, ◌^◌, ◌<◌, ◌≤◌, ℕ, length, replicate, slice_get, IfOk, IfSome, Some, None};
 ghost use Rattle.std.specs.List.{range_with_len};
 ghost use Rattle.std.specs.List.Sorted.{IsPermutation};
 ghost use Rattle.frame_pool.specs.States.{pins_of};
 ghost use Rattle.frame_pool.specs.Frames.{EachFrame, IsLoadingAt, IsReadyAt, IsPinnedAt, HasKeysOnce, KeepsPinned, empty_frames};
-ghost use Rattle.frame_pool.specs.Moves.{IsAnswer, after_ask, after_settle, after_unpin, settled as settled_of};
+ghost use Rattle.frame_pool.specs.Moves.{IsAnswer, MayGoOn, after_ask, after_settle, after_unpin, settled as settled_of};
 ghost use Rattle.frame_pool.specs.declared.frame.FrameState.TheVariants.{Empty as empty, Loading as loading};
 ghost use Rattle.frame_pool.specs.declared.frame.Asked.{Asked as asked};
 
@@ -60,6 +60,7 @@ impl<K: Copy + Eq, V: Drop> Pool<K, V> {
         ensures only { (other : asked) → IsAnswer K.eq key self.old other → other ≡ result }
         ensures after { self.new ≡ after_ask key self.old result }
         ensures pinned { KeepsPinned self.old self.new }
+        ensures next { MayGoOn result self.new.census }
     {
         match holder(&self.census, key) {
             Some(frame) => match self.census[frame] {
@@ -88,7 +89,8 @@ impl<K: Copy + Eq, V: Drop> Pool<K, V> {
     /// Ends the loading of the frame. With a value it is ready, with one pin; without one it is empty.
     pub fn settle(&mut self, frame: u32, value: Option<V>)
         requires { IsLoadingAt self.old.census frame }
-        ensures { self.new ≡ after_settle frame value self.old }
+        ensures after { self.new ≡ after_settle frame value self.old }
+        ensures next { IfSome value (λ _. IsPinnedAt self.new.census frame) }
     {
         let at = frame as usize;
         let FrameState::Loading { key } = self.census[at] else {

@@ -6,10 +6,10 @@ use Rattle.frame_pool.specs.declared.frame.FrameState.TheVariants.{Ready, Loadin
 use Rattle.frame_pool.specs.declared.frame.Asked.TheVariants.{Hit, Granted, Loading as Waiting, Busy}
 use Rattle.frame_pool.specs.States.{pins_of}
 use Rattle.frame_pool.specs.Frames.{Frames, IsPool, EachFrame, HasKeysOnce, KeepsPinned, victim}
-use Rattle.frame_pool.specs.Moves.{IsAnswer, pinned, after_ask, asked_last}
+use Rattle.frame_pool.specs.Moves.{IsAnswer, MayGoOn, pinned, after_ask, asked_last}
 use Rattle.frame_pool.proofs.Asking.{one_answer}
 use Rattle.frame_pool.proofs.Holders.{ready-at, loading-at, none-has, front-written}
-use Rattle.frame_pool.proofs.Keeping.{keeps_pinned}
+use Rattle.frame_pool.proofs.Keeping.{keeps_pinned, may_go_on}
 use Rattle.frame_pool.proofs.Pools.{IsPool-pins, IsPool-front, IsPool-loading, once-in_order, changed-at}
 use Rattle.frame_pool.proofs.Victims.{victim-inside, victim-seen, all_pinned}
 use Rattle.frame_pool.proofs.pool.Pool.ask.Goals as goal
@@ -125,3 +125,13 @@ pub returns-in-Some-victim-clause-pinned : goal.returns-in-Some-victim-clause-pi
 returns-in-Some-victim-clause-pinned g c =
     subst (λ (p : Frames g.row.K.Denot g.row.V.Denot). KeepsPinned c.args.self.now p) (sym (returns-in-Some-victim-clause-after g c))
       (keeps_pinned g.K.PartialEq.eq c.args.key c.args.self.now (Granted c.in-Some-victim.frame) (returns-in-Some-victim-clause-answer g c))
+
+pub returns-in-Ready-clause-next : goal.returns-in-Ready-clause-next
+returns-in-Ready-clause-next g c =
+    subst (λ (p : Frames g.row.K.Denot g.row.V.Denot). MayGoOn (Hit c.in-Some.frame) p.census) (sym (returns-in-Ready-clause-after g c))
+      (may_go_on g.K.PartialEq.eq c.args.key c.args.self.now (Hit c.in-Some.frame) (returns-in-Ready-clause-answer g c))
+
+pub returns-in-Some-victim-clause-next : goal.returns-in-Some-victim-clause-next
+returns-in-Some-victim-clause-next g c =
+    subst (λ (p : Frames g.row.K.Denot g.row.V.Denot). MayGoOn (Granted c.in-Some-victim.frame) p.census) (sym (returns-in-Some-victim-clause-after g c))
+      (may_go_on g.K.PartialEq.eq c.args.key c.args.self.now (Granted c.in-Some-victim.frame) (returns-in-Some-victim-clause-answer g c))
