@@ -59,17 +59,17 @@ pub permutation-asked_last : (f : ℕ) (xs : List ℕ) → length (filter (λ g.
 permutation-asked_last f [] h = absurd (omega arith)
 permutation-asked_last f (x ∷ xs) h = ⊎_elim
     (λ (same : x ≡ f).
-      let here = eq-eqb x f same in
-      let once : length (filter (λ g. eqb g f) xs) ≡ 0 = let k = subst (λ b. length (cond b (x ∷ filter (λ g. eqb g f) xs) (filter (λ g. eqb g f) xs)) ≡ 1) here h in omega arith in
-      subst (λ b. IsPermutation (x ∷ xs) (f ∷ cond (not b) (x ∷ filter (λ g. not (eqb g f)) xs) (filter (λ g. not (eqb g f)) xs))) (sym here)
-        (subst (λ ys. IsPermutation (x ∷ xs) (f ∷ ys)) (sym (filter-none (λ g. eqb g f) xs once)) (subst (λ y. IsPermutation (x ∷ xs) (y ∷ xs)) same (IsPermutation-refl (x ∷ xs)))))
+    let here = eq-eqb x f same in
+    let once : length (filter (λ g. eqb g f) xs) ≡ 0 = let k = subst (λ b. length (cond b (x ∷ filter (λ g. eqb g f) xs) (filter (λ g. eqb g f) xs)) ≡ 1) here h in omega arith in
+    subst (λ b. IsPermutation (x ∷ xs) (f ∷ cond (not b) (x ∷ filter (λ g. not (eqb g f)) xs) (filter (λ g. not (eqb g f)) xs))) (sym here)
+    (subst (λ ys. IsPermutation (x ∷ xs) (f ∷ ys)) (sym (filter-none (λ g. eqb g f) xs once)) (subst (λ y. IsPermutation (x ∷ xs) (y ∷ xs)) same (IsPermutation-refl (x ∷ xs)))))
     (λ (other : x ≡ f → ⊥).
-      let here = ne_eqb x f other in
-      let once = subst (λ b. length (cond b (x ∷ filter (λ g. eqb g f) xs) (filter (λ g. eqb g f) xs)) ≡ 1) here h in
-      subst (λ b. IsPermutation (x ∷ xs) (f ∷ cond (not b) (x ∷ filter (λ g. not (eqb g f)) xs) (filter (λ g. not (eqb g f)) xs))) (sym here)
-        (IsPermutation-trans (x ∷ xs) (x ∷ f ∷ filter (λ g. not (eqb g f)) xs) (f ∷ x ∷ filter (λ g. not (eqb g f)) xs)
-          (IsPermutation-cons x xs (asked_last f xs) (permutation-asked_last f xs once))
-          (IsPermutation-middle (x ∷ []) f (filter (λ g. not (eqb g f)) xs))))
+    let here = ne_eqb x f other in
+    let once = subst (λ b. length (cond b (x ∷ filter (λ g. eqb g f) xs) (filter (λ g. eqb g f) xs)) ≡ 1) here h in
+    subst (λ b. IsPermutation (x ∷ xs) (f ∷ cond (not b) (x ∷ filter (λ g. not (eqb g f)) xs) (filter (λ g. not (eqb g f)) xs))) (sym here)
+    (IsPermutation-trans (x ∷ xs) (x ∷ f ∷ filter (λ g. not (eqb g f)) xs) (f ∷ x ∷ filter (λ g. not (eqb g f)) xs)
+    (IsPermutation-cons x xs (asked_last f xs) (permutation-asked_last f xs once))
+    (IsPermutation-middle (x ∷ []) f (filter (λ g. not (eqb g f)) xs))))
     (cases_eq x f)
 
 -- each number of a range stands in it once
@@ -85,12 +85,12 @@ pub count-in_range : (f a n : ℕ) → a ≤ f → f < a + n → count_by (λ g.
 count-in_range f a zero low high = absurd (omega arith)
 count-in_range f a (suc n) low high = ⊎_elim
     (λ (same : a ≡ f). sum_by-cons (λ g. cond (eqb g f) 1 0) a (range_with_len (a + 1) n)
-      ∙ ap (λ b. cond b 1 0 + count_by (λ g. eqb g f) (range_with_len (a + 1) n)) (eq-eqb a f same)
-      ∙ ap (λ k. 1 + k) (count-below f (a + 1) n (omega arith)))
+    ∙ ap (λ b. cond b 1 0 + count_by (λ g. eqb g f) (range_with_len (a + 1) n)) (eq-eqb a f same)
+    ∙ ap (λ k. 1 + k) (count-below f (a + 1) n (omega arith)))
     (λ (other : a ≡ f → ⊥). sum_by-cons (λ g. cond (eqb g f) 1 0) a (range_with_len (a + 1) n)
-      ∙ ap (λ b. cond b 1 0 + count_by (λ g. eqb g f) (range_with_len (a + 1) n)) (ne_eqb a f other)
-      ∙ zero-add (count_by (λ g. eqb g f) (range_with_len (a + 1) n))
-      ∙ count-in_range f (a + 1) n (omega arith) (omega arith))
+    ∙ ap (λ b. cond b 1 0 + count_by (λ g. eqb g f) (range_with_len (a + 1) n)) (ne_eqb a f other)
+    ∙ zero-add (count_by (λ g. eqb g f) (range_with_len (a + 1) n))
+    ∙ count-in_range f (a + 1) n (omega arith) (omega arith))
     (cases_eq a f)
 
 -- each number below n stands once in an order of the numbers below n
@@ -101,7 +101,7 @@ count-order f n order numbers h = sum_by-IsPermutation (λ g. cond (eqb g f) 1 0
 pub order-asked_last : (f n : ℕ) (order : List ℕ) → IsPermutation (range_with_len 0 n) order → f < n → IsPermutation (range_with_len 0 n) (asked_last f order)
 order-asked_last f n order numbers h =
     IsPermutation-trans (range_with_len 0 n) order (asked_last f order) numbers
-      (permutation-asked_last f order (length-filter (λ g. eqb g f) order ∙ count-order f n order numbers h))
+    (permutation-asked_last f order (length-filter (λ g. eqb g f) order ∙ count-order f n order numbers h))
 
 -- one number more
 pub range-suc : (a n : ℕ) → range_with_len a (suc n) ≡ range_with_len a n ++ (a + n) ∷ []

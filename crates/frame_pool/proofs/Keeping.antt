@@ -1,15 +1,15 @@
 -- What is pinned keeps its key and its value while others ask.
-use Rattle.std.proofs.Common.{◌≡◌, ◌≢◌, ◌∙◌, ℕ, zero, suc, ◌+◌, ◌<◌, ◌≤◌, ◌⊎◌, inl, inr, Bool, true, false, not, List, length, set, Option, Some, None, refl, sym, ap, subst, IfSome, ⊎_elim, add-one, arith}
+use Rattle.std.proofs.Common.{◌≡◌, ◌≢◌, ◌∙◌, ℕ, ◌+◌, Bool, true, false, not, set, Option, Some, None, refl, sym, ap, subst, IfSome, ⊎_elim, add-one, arith}
 use Rattle.std.specs.List.{slice_get}
 use Rattle.std.proofs.lemmas.Option.{slice_get_within, same_Some}
 use Rattle.std.proofs.lemmas.Bool.{both_ways, cases_eq}
 use Rattle.frame_pool.specs.declared.frame.FrameState.{FrameState}
-use Rattle.frame_pool.specs.declared.frame.FrameState.TheVariants.{Empty, Loading, Ready}
+use Rattle.frame_pool.specs.declared.frame.FrameState.TheVariants.{Loading, Ready}
 use Rattle.frame_pool.specs.declared.frame.Asked.{Asked}
 use Rattle.frame_pool.specs.declared.frame.Asked.TheVariants.{Hit, Granted, Loading as Waiting, Busy}
 use Rattle.frame_pool.specs.States.{is_pinned, is_zero, key_of}
 use Rattle.frame_pool.specs.Frames.{Frames, IsLoadingAt, IsPinnedAt, KeepsPinned}
-use Rattle.frame_pool.specs.Moves.{IsAnswer, MayGoOn, after_ask, after_settle, changed, pinned, settled}
+use Rattle.frame_pool.specs.Moves.{IsAnswer, MayGoOn, after_ask, after_settle, pinned, settled}
 use Rattle.frame_pool.proofs.Places.{get-set_same, get-set_other}
 use Rattle.frame_pool.proofs.Pools.{changed-at}
 use Rattle.frame_pool.proofs.Victims.{victim-unpinned}
@@ -23,12 +23,12 @@ module _ {K V : Type 0} (eq : K → K → Bool) (key : K) (frames : Frames K V) 
   keeps-hit f own pins at g state here is =
       let written = changed-at frames.census f (Ready own pins) pinned at in
       ⊎_elim
-        (λ (same : g ≡ f).
-          let was = same_Some state (Ready own pins) (sym here ∙ ap (slice_get frames.census) same ∙ at) in
-          (Ready own (pins + 1), ap (λ xs. slice_get xs g) written ∙ ap (slice_get (set frames.census f (Ready own (pins + 1)))) same ∙ get-set_same frames.census f (Ready own (pins + 1)) (slice_get_within frames.census f (Ready own pins) at), some-pins pins, ap key_of (sym was), refl))
-        (λ (other : g ≡ f → ⊥).
-          (state, ap (λ xs. slice_get xs g) written ∙ get-set_other frames.census f g (Ready own (pins + 1)) other ∙ here, is, refl, refl))
-        (cases_eq g f)
+      (λ (same : g ≡ f).
+      let was = same_Some state (Ready own pins) (sym here ∙ ap (slice_get frames.census) same ∙ at) in
+      (Ready own (pins + 1), ap (λ xs. slice_get xs g) written ∙ ap (slice_get (set frames.census f (Ready own (pins + 1)))) same ∙ get-set_same frames.census f (Ready own (pins + 1)) (slice_get_within frames.census f (Ready own pins) at), some-pins pins, ap key_of (sym was), refl))
+      (λ (other : g ≡ f → ⊥).
+      (state, ap (λ xs. slice_get xs g) written ∙ get-set_other frames.census f g (Ready own (pins + 1)) other ∙ here, is, refl, refl))
+      (cases_eq g f)
 
   -- another frame is granted
   keeps-granted : (f : ℕ) (victim : FrameState K) → slice_get frames.census f ≡ Some victim → is_pinned victim ≡ false → KeepsPinned frames (after_ask key frames (Granted f))

@@ -1,5 +1,5 @@
 -- The value in a frame that is ready.
-use Rattle.std.proofs.Common.{◌≡◌, ◌∙◌, ℕ, Bool, true, List, get_or, Option, Some, None, refl, sym, ap, subst, rules}
+use Rattle.std.proofs.Common.{◌≡◌, ◌∙◌, ℕ, List, get_or, Option, Some, None, ap, rules}
 use Rattle.std.specs.List.{slice_get}
 use Rattle.std.specs.Option.{IsSome, is_some}
 use Rattle.std.proofs.lemmas.Bool.{false≢true}

@@ -1,19 +1,18 @@
 -- Each move keeps what holds of every pool.
-use Rattle.std.proofs.Common.{◌≡◌, ◌≢◌, ◌∙◌, ℕ, ◌+◌, ◌<◌, ◌≤◌, ◌⊎◌, inl, inr, Bool, true, false, eqb, List, length, replicate, zero, suc, set, get_or, position, Option, Some, None, refl, sym, ap, subst, ⊎_elim, arith}
+use Rattle.std.proofs.Common.{◌≡◌, ◌≢◌, ◌∙◌, ℕ, ◌<◌, ◌≤◌, Bool, true, eqb, List, length, set, Option, Some, None, sym, ap, subst, ⊎_elim}
 use Rattle.std.specs.List.{slice_get, range_with_len, count_by}
 use Rattle.std.specs.List.Sorted.{IsPermutation}
-use Rattle.std.proofs.lemmas.List.Sorted.{IsPermutation-refl}
 use Rattle.std.specs.Cmp.{IsPartialEquivalence}
-use Rattle.std.proofs.lemmas.List.{length-set, length-replicate}
-use Rattle.std.proofs.lemmas.Option.{none-some, same_Some, slice_get_within, get_or_from_slice_get}
+use Rattle.std.proofs.lemmas.List.{length-set}
+use Rattle.std.proofs.lemmas.Option.{slice_get_within, get_or_from_slice_get}
 use Rattle.std.proofs.lemmas.Bool.{both_ways, false≢true}
 use Rattle.frame_pool.specs.declared.frame.FrameState.{FrameState}
 use Rattle.frame_pool.specs.declared.frame.FrameState.TheVariants.{Empty, Loading, Ready}
 use Rattle.frame_pool.specs.States.{has_key}
-use Rattle.frame_pool.specs.Frames.{IsPool, HasKeysOnce, HasValues, IsReadyAt}
+use Rattle.frame_pool.specs.Frames.{IsPool, HasKeysOnce, HasValues}
 use Rattle.frame_pool.specs.Moves.{NoneHas, asked_last, changed, settled}
 use Rattle.frame_pool.proofs.Fronts.{count-order, order-asked_last}
-use Rattle.frame_pool.proofs.Places.{at-set, get-set_same, get-set_other, position-at}
+use Rattle.frame_pool.proofs.Places.{at-set, get-set_same, get-set_other}
 
 module _ {K : Type 0} where
   -- a change of a state that is known
@@ -23,7 +22,7 @@ module _ {K : Type 0} where
 module _ {K : Type 0} (eq : K → K → Bool) where
   -- a state in a written census has a key only where the old one had it
   old_has : (census : List (FrameState K)) (f g : ℕ) (old new one : FrameState K) (key : K) → slice_get census f ≡ Some old → (has_key eq key new ≡ true → has_key eq key old ≡ true) → slice_get (set census f new) g ≡ Some one → has_key eq key one ≡ true
-    → (state : FrameState K) × (slice_get census g ≡ Some state) × (has_key eq key state ≡ true)
+      → (state : FrameState K) × (slice_get census g ≡ Some state) × (has_key eq key state ≡ true)
   old_has census f g old new one key at sub here has = ⊎_elim
       (λ (t : (g ≡ f) × (new ≡ one)). (old, ap (slice_get census) t.0 ∙ at, sub (subst (λ s. has_key eq key s ≡ true) (sym t.1) has)))
       (λ (t : (g ≢ f) × (slice_get census g ≡ Some one)). (one, t.1, has))
@@ -50,15 +49,15 @@ module _ {K : Type 0} (eq : K → K → Bool) where
   keys-new laws census f key once none third g h one other here there has too =
       let clash : (i j : ℕ) (state : FrameState K) → Loading key ≡ one → slice_get census j ≡ Some state → has_key eq third state ≡ true → i ≡ j = λ i j state is at same. absurd (both_ways (has_key eq key state) (none j state at) (has-alike laws state key third same (subst (λ s. has_key eq third s ≡ true) (sym is) has))) in
       ⊎_elim
-        (λ (a : (g ≡ f) × (Loading key ≡ one)). ⊎_elim
-          (λ (b : (h ≡ f) × (Loading key ≡ other)). a.0 ∙ sym b.0)
-          (λ (b : (h ≢ f) × (slice_get census h ≡ Some other)). clash g h other a.1 b.1 too)
-          (at-set census f h (Loading key) other there))
-        (λ (a : (g ≢ f) × (slice_get census g ≡ Some one)). ⊎_elim
-          (λ (b : (h ≡ f) × (Loading key ≡ other)). absurd (both_ways (has_key eq key one) (none g one a.1) (has-alike laws one key third has (subst (λ s. has_key eq third s ≡ true) (sym b.1) too))))
-          (λ (b : (h ≢ f) × (slice_get census h ≡ Some other)). once third g h one other a.1 b.1 has too)
-          (at-set census f h (Loading key) other there))
-        (at-set census f g (Loading key) one here)
+      (λ (a : (g ≡ f) × (Loading key ≡ one)). ⊎_elim
+      (λ (b : (h ≡ f) × (Loading key ≡ other)). a.0 ∙ sym b.0)
+      (λ (b : (h ≢ f) × (slice_get census h ≡ Some other)). clash g h other a.1 b.1 too)
+      (at-set census f h (Loading key) other there))
+      (λ (a : (g ≢ f) × (slice_get census g ≡ Some one)). ⊎_elim
+      (λ (b : (h ≡ f) × (Loading key ≡ other)). absurd (both_ways (has_key eq key one) (none g one a.1) (has-alike laws one key third has (subst (λ s. has_key eq third s ≡ true) (sym b.1) too))))
+      (λ (b : (h ≢ f) × (slice_get census h ≡ Some other)). once third g h one other a.1 b.1 has too)
+      (at-set census f h (Loading key) other there))
+      (at-set census f g (Loading key) one here)
 
 module _ {K V : Type 0} where
   -- a frame that isn't ready is written beside its value

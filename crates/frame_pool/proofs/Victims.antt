@@ -1,14 +1,14 @@
 -- The victim may be given up, and where there is none every frame is pinned.
-use Rattle.std.proofs.Common.{◌≡◌, ◌∙◌, ℕ, zero, suc, ◌+◌, ◌<◌, ◌≤◌, Bool, true, false, not, eqb, List, [], ◌∷◌, length, reverse, position, find, filter, count_by, Option, Some, None, refl, sym, ap, subst, arith}
+use Rattle.std.proofs.Common.{◌≡◌, ◌∙◌, ℕ, ◌<◌, true, false, not, eqb, List, length, reverse, position, Option, Some, None, refl, sym, ap, subst}
 use Rattle.std.specs.List.{slice_get, range_with_len, prefix_len}
 use Rattle.std.specs.List.Sorted.{IsPermutation}
 use Rattle.std.proofs.lemmas.List.Sums.{length-filter}
 use Rattle.std.proofs.lemmas.List.Sorted.{IsPermutation-trans, IsPermutation-reverse}
-use Rattle.std.proofs.lemmas.Option.{none-some, same_Some, slice_get_within}
+use Rattle.std.proofs.lemmas.Option.{none-some, slice_get_within}
 use Rattle.std.proofs.lemmas.Bool.{eqb-true, true≢false, false≢true}
 use Rattle.frame_pool.specs.declared.frame.FrameState.{FrameState}
 use Rattle.frame_pool.specs.declared.frame.FrameState.TheVariants.{Empty, Loading, Ready}
-use Rattle.frame_pool.specs.States.{is_empty, is_free, is_pinned, is_zero}
+use Rattle.frame_pool.specs.States.{is_empty, is_free, is_pinned}
 use Rattle.frame_pool.specs.Frames.{victim, last_free, either, is_free_frame, EachFrame}
 use Rattle.frame_pool.proofs.Fronts.{position-once, count-order}
 use Rattle.frame_pool.proofs.Places.{position-at, none-at, find-passes, none-found}

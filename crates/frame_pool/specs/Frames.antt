@@ -1,5 +1,5 @@
 -- Frames as contracts see them: this project's own.
-use Rattle.std.specs.Prelude.{◌≡◌, ℕ, ◌+◌, ◌-◌, ◌^◌, ◌<◌, ◌≤◌, Bool, true, false, List, length, replicate, position, find, reverse, slice_get, Option, Some, None}
+use Rattle.std.specs.Prelude.{◌≡◌, ℕ, ◌<◌, ◌≤◌, Bool, true, false, List, length, replicate, position, find, reverse, slice_get, Option, Some, None}
 use Rattle.std.specs.List.{range_with_len}
 use Rattle.std.specs.List.Sorted.{IsPermutation}
 use Rattle.frame_pool.specs.declared.frame.FrameState.{FrameState}
@@ -70,4 +70,4 @@ empty_frames n = record { census = replicate n Empty; values = replicate n None;
 -- a frame that is pinned has the same key and the same value in both
 abbrev pub KeepsPinned : {K V : Type 0} → Frames K V → Frames K V → Type 0
 KeepsPinned {K} old new = (f : ℕ) (state : FrameState K) → slice_get old.census f ≡ Some state → is_pinned state ≡ true
-  → (later : FrameState K) × (slice_get new.census f ≡ Some later) × (is_pinned later ≡ true) × (key_of later ≡ key_of state) × (slice_get new.values f ≡ slice_get old.values f)
+    → (later : FrameState K) × (slice_get new.census f ≡ Some later) × (is_pinned later ≡ true) × (key_of later ≡ key_of state) × (slice_get new.values f ≡ slice_get old.values f)

@@ -1,5 +1,5 @@
 -- What a pool answers, and what each call leaves: this project's own.
-use Rattle.std.specs.Prelude.{◌≡◌, ℕ, ◌+◌, ◌-◌, ◌<◌, Bool, true, false, not, eqb, List, [], ◌∷◌, length, filter, slice_get, slice_index_or, slice_set, Option, Some, None, ⊤}
+use Rattle.std.specs.Prelude.{◌≡◌, ℕ, ◌+◌, ◌-◌, Bool, true, false, not, eqb, List, ◌∷◌, filter, slice_get, slice_index_or, slice_set, Option, Some, None, ⊤}
 use Rattle.frame_pool.specs.declared.frame.FrameState.{FrameState}
 use Rattle.frame_pool.specs.declared.frame.FrameState.TheVariants.{Empty, Loading, Ready}
 use Rattle.frame_pool.specs.declared.frame.Asked.{Asked}

@@ -8,14 +8,9 @@ pub enum FrameState<K> {
     /// Without a key and a value.
     Empty,
     /// Granted to one who fetches the value of the key. It counts as pinned.
-    Loading {
-        key: K,
-    },
+    Loading { key: K },
     /// With the value of the key, and with the number of those who use it.
-    Ready {
-        key: K,
-        pins: u32,
-    },
+    Ready { key: K, pins: u32 },
 }
 
 /// The answer to one who asks for a key.

@@ -6,11 +6,8 @@ mod frame;
 mod order;
 mod pool;
 
-
-
 pub use frame::{Asked, FrameState};
 pub use pool::Pool;
-
 
 #[cfg(test)]
 mod tests;

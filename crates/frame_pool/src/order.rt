@@ -49,7 +49,11 @@ fn first_empty<K: Copy + Eq>(census: &[FrameState<K>]) -> Option<usize>
 fn last_free<K: Copy + Eq>(census: &[FrameState<K>], order: &[u32]) -> Option<u32>
     ensures { result ≡ last_free_of census.now order.now }
 {
-    order.iter().rev().copied().find(|frame| is_free(census, *frame))
+    order
+        .iter()
+        .rev()
+        .copied()
+        .find(|frame| is_free(census, *frame))
 }
 
 fn is_free<K: Copy + Eq>(census: &[FrameState<K>], frame: u32) -> bool

@@ -14,6 +14,7 @@ use std::alloc::{AllocError, Global};
 use std::marker::Model;
 
 /// Frames for values with keys, of which each value stands in one frame and stays there while it is pinned.
+#[derive(Drop)]
 pub struct Pool<K: Copy + Eq, V: Drop> {
     census: Vec<FrameState<K>>,
     values: Vec<Option<V>>,
@@ -21,11 +22,9 @@ pub struct Pool<K: Copy + Eq, V: Drop> {
 }
 
 impl<K: Copy + Eq, V: Drop> Model for Pool<K, V> {
-
     ghost use Rattle.frame_pool.specs.Frames.{Frames, IsPool};
 
     ghost Value = { Frames K V };
-
 
     ghost view = { λ p. record { census = p.census.items; values = p.values.items; order = p.order.items } };
 
@@ -33,6 +32,19 @@ impl<K: Copy + Eq, V: Drop> Model for Pool<K, V> {
 }
 
 impl<K: Copy + Eq, V: Drop> Pool<K, V> {
+    /// A pool of this many empty frames, in the order of their numbers. All memory of the pool is taken here; an
+    /// error is want of it.
+    pub fn new(alloc: Global, frames: usize) -> Result<Pool<K, V>, AllocError>
+        requires { (1 ≤ frames) × (frames ≤ 1024) }
+        ensures { IfOk result (λ pool. pool ≡ empty_frames frames) }
+    {
+        Ok(Pool {
+            census: empty_states(alloc, frames)?,
+            values: no_values(alloc, frames)?,
+            order: numbers(alloc, frames)?,
+        })
+    }
+
     /// The state of each frame, by its number. No two frames have one key.
     pub fn census(&self) -> &[FrameState<K>]
         ensures states { result.now ≡ self.now.census }
@@ -48,9 +60,7 @@ impl<K: Copy + Eq, V: Drop> Pool<K, V> {
     {
         &self.order
     }
-}
 
-impl<K: Copy + Eq, V: Drop> Pool<K, V> {
     /// Asks for the value of the key. A hit is one more pin of its frame, which `unpin` ends. A granted frame waits
     /// for the value, which `settle` brings. Where another one is loading the key, or every frame is pinned, nothing
     /// changes.
@@ -59,6 +69,7 @@ impl<K: Copy + Eq, V: Drop> Pool<K, V> {
         ensures answer { IsAnswer K.eq key self.old result }
         ensures only { (other : asked) → IsAnswer K.eq key self.old other → other ≡ result }
         ensures after { self.new ≡ after_ask key self.old result }
+        ensures count { length self.new.census ≡ length self.old.census }
         ensures pinned { KeepsPinned self.old self.new }
         ensures next { MayGoOn result self.new.census }
     {
@@ -90,6 +101,7 @@ impl<K: Copy + Eq, V: Drop> Pool<K, V> {
     pub fn settle(&mut self, frame: u32, value: Option<V>)
         requires { IsLoadingAt self.old.census frame }
         ensures after { self.new ≡ after_settle frame value self.old }
+        ensures count { length self.new.census ≡ length self.old.census }
         ensures next { IfSome value (λ _. IsPinnedAt self.new.census frame) }
     {
         let at = frame as usize;
@@ -103,7 +115,8 @@ impl<K: Copy + Eq, V: Drop> Pool<K, V> {
     /// Ends one pin of the frame.
     pub fn unpin(&mut self, frame: u32)
         requires { IsPinnedAt self.old.census frame }
-        ensures { self.new ≡ after_unpin frame self.old }
+        ensures after { self.new ≡ after_unpin frame self.old }
+        ensures count { length self.new.census ≡ length self.old.census }
     {
         let at = frame as usize;
         let FrameState::Ready { key, pins } = self.census[at] else {
@@ -134,22 +147,10 @@ fn settled<K: Copy + Eq, V: Drop>(key: K, value: &Option<V>) -> FrameState<K>
     }
 }
 
-impl<K: Copy + Eq, V: Drop> Pool<K, V> {
-    /// A pool of this many empty frames, in the order of their numbers. All memory of the pool is taken here; an
-    /// error is want of it.
-    pub fn new(alloc: Global, frames: usize) -> Result<Pool<K, V>, AllocError>
-        requires { (1 ≤ frames) × (frames ≤ 1024) }
-        ensures { IfOk result (λ pool. pool ≡ empty_frames frames) }
-    {
-        Ok(Pool {
-            census: empty_states(alloc, frames)?,
-            values: no_values(alloc, frames)?,
-            order: numbers(alloc, frames)?,
-        })
-    }
-}
-
-fn empty_states<K: Copy + Eq>(alloc: Global, frames: usize) -> Result<Vec<FrameState<K>>, AllocError>
+fn empty_states<K: Copy + Eq>(
+    alloc: Global,
+    frames: usize,
+) -> Result<Vec<FrameState<K>>, AllocError>
     ensures { IfOk result (λ states. states.items ≡ replicate frames empty) }
 {
     let mut states = Vec::with_capacity(alloc, frames)?;

@@ -1,4 +1,4 @@
-use Rattle.std.proofs.Common.{◌≡◌, ◌∙◌, ℕ, eqb, sym, ap, slice_set, Some, subst, rules}
+use Rattle.std.proofs.Common.{◌∙◌, eqb, sym, ap, slice_set, subst, rules}
 use Rattle.std.specs.Option.{IsSome}
 use Rattle.std.proofs.lemmas.List.Sums.{length-filter}
 use Rattle.frame_pool.proofs.Fronts.{position-once, moved-once}

@@ -1,11 +1,10 @@
-use Rattle.std.proofs.Common.{◌≡◌, ◌∙◌, ℕ, ◌+◌, ◌<◌, length, sym, ap, subst, set, List, Option, Some, None, eqb, count_by, arith}
-use Rattle.std.specs.List.{slice_get}
+use Rattle.std.proofs.Common.{◌≡◌, ◌∙◌, ℕ, ◌+◌, ◌<◌, sym, ap, subst, set, List, Some, None, eqb, count_by, arith}
 use Rattle.std.proofs.lemmas.Option.{slice_get_within}
 use Rattle.frame_pool.specs.declared.frame.FrameState.{FrameState}
 use Rattle.frame_pool.specs.declared.frame.FrameState.TheVariants.{Ready, Loading}
 use Rattle.frame_pool.specs.declared.frame.Asked.TheVariants.{Hit, Granted, Loading as Waiting, Busy}
 use Rattle.frame_pool.specs.States.{pins_of}
-use Rattle.frame_pool.specs.Frames.{Frames, IsPool, EachFrame, HasKeysOnce, KeepsPinned, victim}
+use Rattle.frame_pool.specs.Frames.{Frames, IsPool, EachFrame, HasKeysOnce, KeepsPinned}
 use Rattle.frame_pool.specs.Moves.{IsAnswer, MayGoOn, pinned, after_ask, asked_last}
 use Rattle.frame_pool.proofs.Asking.{one_answer}
 use Rattle.frame_pool.proofs.Holders.{ready-at, loading-at, none-has, front-written}
@@ -24,7 +23,7 @@ pub move_to_front-requires : goal.move_to_front-requires
 move_to_front-requires g c =
     let ready = ready-at g.K.PartialEq.eq c.args.key c.self.inside.census.items c.deref.result.now c.in-Some.frame c.index.result.now c.in-Ready.own c.in-Ready.pins c.in-Some.ensures c.deref.ensures.value c.index.ensures c.in-Ready.is in
     subst (λ (xs : List ℕ). count_by (λ n. eqb n c.in-Some.frame) xs ≡ 1) (sym c.deref_mut.ensures.value)
-      (once-in_order g.K.PartialEq.eq c.self.inside.census.items c.self.inside.values.items c.self.inside.order.items c.in-Some.frame c.self.invariant (slice_get_within c.self.inside.census.items c.in-Some.frame _ ready.0))
+    (once-in_order g.K.PartialEq.eq c.self.inside.census.items c.self.inside.values.items c.self.inside.order.items c.in-Some.frame c.self.invariant (slice_get_within c.self.inside.census.items c.in-Some.frame _ ready.0))
 
 pub invariant_of-self : goal.invariant_of-self
 invariant_of-self g c =
@@ -33,9 +32,9 @@ invariant_of-self g c =
     let once = once-in_order g.K.PartialEq.eq c.self.inside.census.items c.self.inside.values.items c.self.inside.order.items c.in-Some.frame c.self.invariant inside in
     let front = front-written c.self.inside.order.len c.in-Some.frame c.self.inside.order.items c.deref_mut.result.now c.move_to_front.new.order c.self.inside.order.ok.0 once c.deref_mut.ensures.value c.move_to_front.ensures in
     subst (λ (xs : List ℕ). IsPool g.K.PartialEq.eq (set c.self.inside.census.items c.in-Some.frame (Ready c.in-Ready.own (c.in-Ready.pins + 1))) c.self.inside.values.items xs) (sym front)
-      (IsPool-pins g.K.PartialEq.eq c.self.inside.census.items c.self.inside.values.items (asked_last c.in-Some.frame c.self.inside.order.items) c.in-Some.frame
-        (IsPool-front g.K.PartialEq.eq c.self.inside.census.items c.self.inside.values.items c.self.inside.order.items c.in-Some.frame c.self.invariant inside)
-        c.in-Ready.own c.in-Ready.pins (c.in-Ready.pins + 1) ready.0)
+    (IsPool-pins g.K.PartialEq.eq c.self.inside.census.items c.self.inside.values.items (asked_last c.in-Some.frame c.self.inside.order.items) c.in-Some.frame
+    (IsPool-front g.K.PartialEq.eq c.self.inside.census.items c.self.inside.values.items c.self.inside.order.items c.in-Some.frame c.self.invariant inside)
+    c.in-Ready.own c.in-Ready.pins (c.in-Ready.pins + 1) ready.0)
 
 pub returns-in-Ready-clause-answer : goal.returns-in-Ready-clause-answer
 returns-in-Ready-clause-answer g c =
@@ -53,7 +52,7 @@ returns-in-Ready-clause-after g c =
     let front = front-written c.self.inside.order.len c.in-Some.frame c.self.inside.order.items c.deref_mut.result.now c.move_to_front.new.order c.self.inside.order.ok.0 once c.deref_mut.ensures.value c.move_to_front.ensures in
     ap (λ (xs : List ℕ). let after : Frames g.row.K.Denot g.row.V.Denot = record { census = set c.self.inside.census.items c.in-Some.frame (Ready c.in-Ready.own (c.in-Ready.pins + 1)); values = c.self.inside.values.items; order = xs } in after) front
     ∙ ap (λ (states : List (FrameState g.row.K.Denot)). let after : Frames g.row.K.Denot g.row.V.Denot = record { census = states; values = c.self.inside.values.items; order = asked_last c.in-Some.frame c.self.inside.order.items } in after)
-        (sym (changed-at c.self.inside.census.items c.in-Some.frame (Ready c.in-Ready.own c.in-Ready.pins) pinned ready.0))
+    (sym (changed-at c.self.inside.census.items c.in-Some.frame (Ready c.in-Ready.own c.in-Ready.pins) pinned ready.0))
     ∙ ap (λ (p : Frames g.row.K.Denot g.row.V.Denot). after_ask c.args.key p (Hit c.in-Some.frame)) c.self.view_is
 
 pub returns-in_default-clause-answer : goal.returns-in_default-clause-answer
@@ -82,7 +81,7 @@ pub move_to_front-requires-in-Some-victim : goal.move_to_front-requires-in-Some-
 move_to_front-requires-in-Some-victim g c =
     let inside = victim-inside c.self.inside.census.items c.self.inside.order.items c.in-Some-victim.frame (victim-seen c.self.inside.census.items c.deref-in-None.result.now c.self.inside.order.items c.deref-in-None-2.result.now (Some c.in-Some-victim.frame) c.in-Some-victim.ensures c.deref-in-None.ensures.value c.deref-in-None-2.ensures.value) in
     subst (λ (xs : List ℕ). count_by (λ n. eqb n c.in-Some-victim.frame) xs ≡ 1) (sym c.deref_mut-in-Some-victim.ensures.value)
-      (once-in_order g.K.PartialEq.eq c.self.inside.census.items c.self.inside.values.items c.self.inside.order.items c.in-Some-victim.frame c.self.invariant inside)
+    (once-in_order g.K.PartialEq.eq c.self.inside.census.items c.self.inside.values.items c.self.inside.order.items c.in-Some-victim.frame c.self.invariant inside)
 
 pub invariant_of-self-in-Some-victim : goal.invariant_of-self-in-Some-victim
 invariant_of-self-in-Some-victim g c =
@@ -90,9 +89,9 @@ invariant_of-self-in-Some-victim g c =
     let once = once-in_order g.K.PartialEq.eq c.self.inside.census.items c.self.inside.values.items c.self.inside.order.items c.in-Some-victim.frame c.self.invariant inside in
     let front = front-written c.self.inside.order.len c.in-Some-victim.frame c.self.inside.order.items c.deref_mut-in-Some-victim.result.now c.move_to_front-in-Some-victim.new.order c.self.inside.order.ok.0 once c.deref_mut-in-Some-victim.ensures.value c.move_to_front-in-Some-victim.ensures in
     subst (λ (xs : List ℕ). IsPool g.K.PartialEq.eq (set c.self.inside.census.items c.in-Some-victim.frame (Loading c.args.key)) (set c.self.inside.values.items c.in-Some-victim.frame None) xs) (sym front)
-      (IsPool-loading g.K.PartialEq.eq c.self.inside.census.items c.self.inside.values.items (asked_last c.in-Some-victim.frame c.self.inside.order.items) c.in-Some-victim.frame
-        (IsPool-front g.K.PartialEq.eq c.self.inside.census.items c.self.inside.values.items c.self.inside.order.items c.in-Some-victim.frame c.self.invariant inside)
-        g.met.K.PartialEq.laws c.args.key (none-has g.K.PartialEq.eq c.args.key c.self.inside.census.items c.deref.result.now c.in-None.ensures c.deref.ensures.value))
+    (IsPool-loading g.K.PartialEq.eq c.self.inside.census.items c.self.inside.values.items (asked_last c.in-Some-victim.frame c.self.inside.order.items) c.in-Some-victim.frame
+    (IsPool-front g.K.PartialEq.eq c.self.inside.census.items c.self.inside.values.items c.self.inside.order.items c.in-Some-victim.frame c.self.invariant inside)
+    g.met.K.PartialEq.laws c.args.key (none-has g.K.PartialEq.eq c.args.key c.self.inside.census.items c.deref.result.now c.in-None.ensures c.deref.ensures.value))
 
 pub returns-in-Some-victim-clause-answer : goal.returns-in-Some-victim-clause-answer
 returns-in-Some-victim-clause-answer g c =
@@ -119,19 +118,19 @@ returns-in-Some-victim-clause-after g c =
 pub returns-in-Ready-clause-pinned : goal.returns-in-Ready-clause-pinned
 returns-in-Ready-clause-pinned g c =
     subst (λ (p : Frames g.row.K.Denot g.row.V.Denot). KeepsPinned c.args.self.now p) (sym (returns-in-Ready-clause-after g c))
-      (keeps_pinned g.K.PartialEq.eq c.args.key c.args.self.now (Hit c.in-Some.frame) (returns-in-Ready-clause-answer g c))
+    (keeps_pinned g.K.PartialEq.eq c.args.key c.args.self.now (Hit c.in-Some.frame) (returns-in-Ready-clause-answer g c))
 
 pub returns-in-Some-victim-clause-pinned : goal.returns-in-Some-victim-clause-pinned
 returns-in-Some-victim-clause-pinned g c =
     subst (λ (p : Frames g.row.K.Denot g.row.V.Denot). KeepsPinned c.args.self.now p) (sym (returns-in-Some-victim-clause-after g c))
-      (keeps_pinned g.K.PartialEq.eq c.args.key c.args.self.now (Granted c.in-Some-victim.frame) (returns-in-Some-victim-clause-answer g c))
+    (keeps_pinned g.K.PartialEq.eq c.args.key c.args.self.now (Granted c.in-Some-victim.frame) (returns-in-Some-victim-clause-answer g c))
 
 pub returns-in-Ready-clause-next : goal.returns-in-Ready-clause-next
 returns-in-Ready-clause-next g c =
     subst (λ (p : Frames g.row.K.Denot g.row.V.Denot). MayGoOn (Hit c.in-Some.frame) p.census) (sym (returns-in-Ready-clause-after g c))
-      (may_go_on g.K.PartialEq.eq c.args.key c.args.self.now (Hit c.in-Some.frame) (returns-in-Ready-clause-answer g c))
+    (may_go_on g.K.PartialEq.eq c.args.key c.args.self.now (Hit c.in-Some.frame) (returns-in-Ready-clause-answer g c))
 
 pub returns-in-Some-victim-clause-next : goal.returns-in-Some-victim-clause-next
 returns-in-Some-victim-clause-next g c =
     subst (λ (p : Frames g.row.K.Denot g.row.V.Denot). MayGoOn (Granted c.in-Some-victim.frame) p.census) (sym (returns-in-Some-victim-clause-after g c))
-      (may_go_on g.K.PartialEq.eq c.args.key c.args.self.now (Granted c.in-Some-victim.frame) (returns-in-Some-victim-clause-answer g c))
+    (may_go_on g.K.PartialEq.eq c.args.key c.args.self.now (Granted c.in-Some-victim.frame) (returns-in-Some-victim-clause-answer g c))
