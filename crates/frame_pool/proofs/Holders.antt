@@ -1,0 +1,54 @@
+-- The frame that has a key, as it was read.
+use Rattle.std.proofs.Common.{◌≡◌, ◌∙◌, ℕ, Bool, true, eqb, List, ◌++◌, length, take, drop, get_or, position, count_by, Some, None, refl, sym, ap, subst, append-nil}
+use Rattle.std.specs.List.{slice_get}
+use Rattle.std.proofs.lemmas.List.Sums.{length-filter}
+use Rattle.std.proofs.lemmas.List.Sorted.{length_permutation}
+use Rattle.std.proofs.lemmas.Option.{get_or_from_slice_get}
+use Rattle.std.proofs.lemmas.Bool.{false≢true}
+use Rattle.std.proofs.Math.Seq.{take-length, drop-length}
+use Rattle.frame_pool.specs.declared.frame.FrameState.{FrameState}
+use Rattle.frame_pool.specs.declared.frame.FrameState.TheVariants.{Empty, Loading, Ready}
+use Rattle.frame_pool.specs.States.{has_key}
+use Rattle.frame_pool.specs.Moves.{NoneHas, asked_last}
+use Rattle.frame_pool.proofs.Fronts.{permutation-asked_last}
+use Rattle.frame_pool.proofs.Places.{position-at, none-at}
+
+module _ {K : Type 0} (eq : K → K → Bool) (key : K) (census seen : List (FrameState K)) where
+  -- the state that was read there has the key
+  pub held-at : (f : ℕ) (read : FrameState K) → Some f ≡ position (has_key eq key) seen → seen ≡ census → read ≡ get_or census f read → (slice_get census f ≡ Some read) × (has_key eq key read ≡ true)
+  held-at f read place same is =
+      let h = position-at (has_key eq key) census f Empty (ap (position (has_key eq key)) (sym same) ∙ sym place) in
+      let state = is ∙ get_or_from_slice_get census f h.0 read h.1 in
+      (h.1 ∙ ap Some (sym state), ap (has_key eq key) state ∙ h.2)
+
+  pub ready-at : (f : ℕ) (read : FrameState K) (own : K) (pins : ℕ) → Some f ≡ position (has_key eq key) seen → seen ≡ census → read ≡ get_or census f read → read ≡ Ready own pins → (slice_get census f ≡ Some (Ready own pins)) × (eq own key ≡ true)
+  ready-at f read own pins place same is state =
+      let h = held-at f read place same is in
+      (h.0 ∙ ap Some state, subst (λ s. has_key eq key s ≡ true) state h.1)
+
+  loading-of : (state : FrameState K) → has_key eq key state ≡ true → ((own : K) (pins : ℕ) → state ≡ Ready own pins → ⊥) → (own : K) × (state ≡ Loading own) × (eq own key ≡ true)
+  loading-of Empty has other = absurd (false≢true has)
+  loading-of (Loading own) has other = (own, refl, has)
+  loading-of (Ready own pins) has other = absurd (other own pins refl)
+
+  pub loading-at : (f : ℕ) (read : FrameState K) → Some f ≡ position (has_key eq key) seen → seen ≡ census → read ≡ get_or census f read → ((own : K) (pins : ℕ) → read ≡ Ready own pins → ⊥) → (own : K) × (slice_get census f ≡ Some (Loading own)) × (eq own key ≡ true)
+  loading-at f read place same is other =
+      let h = held-at f read place same is in
+      let own = loading-of read h.1 other in
+      (own.0, h.0 ∙ ap Some own.1, own.2)
+
+  -- where there is no place, no frame has the key
+  pub none-has : None ≡ position (has_key eq key) seen → seen ≡ census → NoneHas eq key census
+  none-has place same = none-at (has_key eq key) census (ap (position (has_key eq key)) (sym same) ∙ sym place)
+
+-- an order that was written through a slice
+pub front-written : (len f : ℕ) (items seen new : List ℕ) → len ≡ length items → count_by (λ g. eqb g f) items ≡ 1 → seen ≡ items → new ≡ asked_last f seen → take len (new ++ drop (length new) items) ≡ asked_last f items
+front-written len f items seen new long once same is =
+    let front = is ∙ ap (asked_last f) same in
+    let many : length new ≡ length items = ap length front ∙ length_permutation items (asked_last f items) (permutation-asked_last f items (length-filter (λ g. eqb g f) items ∙ once)) in
+    ap (λ n. take len (new ++ drop n items)) many
+    ∙ ap (λ ys. take len (new ++ ys)) (drop-length items)
+    ∙ ap (take len) (append-nil new)
+    ∙ ap (λ n. take n new) (long ∙ sym many)
+    ∙ take-length new
+    ∙ front

@@ -1,0 +1,13 @@
+//! A pool of frames: which key each frame holds, who pins it, and which frame is given up for a new key.
+//! `Pool` answers each question by its census and its order, which its contracts state as two lists.
+#![tactic(auto)]
+
+mod frame;
+mod order;
+mod pool;
+
+pub use frame::{Asked, FrameState};
+pub use pool::Pool;
+
+#[cfg(test)]
+mod tests;
