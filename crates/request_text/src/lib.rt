@@ -12,3 +12,6 @@ mod text;
 pub use check_text::write_check;
 pub use line::{Refusal, is_coordinates, is_number, parse_line};
 pub use text::{write_answer, write_refusal};
+
+#[cfg(test)]
+mod tests;
