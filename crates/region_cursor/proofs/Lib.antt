@@ -4,3 +4,4 @@ pub mod Places
 pub mod Passing
 pub mod Walked
 pub mod Results
+pub mod Rows

@@ -66,7 +66,7 @@ row_below s region l some last =
     ∙ roots_go_down s region (l - k) some start
     ∙ ap (flat_map (roots_below s region)) (sym (roots_of_inner_levels s region (l - k) k start low) ∙ ap (walk_roots s region) here)
 
-begins_below : (l n : ℕ) → 1 ≤ n → l % n + 1 ≡ n → (l + 1) % n ≡ 0
+pub begins_below : (l n : ℕ) → 1 ≤ n → l % n + 1 ≡ n → (l + 1) % n ≡ 0
 begins_below l n some last =
     let there : l - l % n + n ≡ l + 1 = omega (arith, local_low l n, last) in
     ap (λ m. m % n) (sym there) ∙ next_start (l - l % n) n some (at_start l n some)
