@@ -1,8 +1,9 @@
 -- The rules of a subtree, from its raw bits.
-use Rattle.std.proofs.Common.{◌≡◌, ℕ, ◌+◌, ◌-◌, ◌/◌, ◌^◌, ◌<◌, ◌≤◌, List, Bool, true, false, length, get_or, sym, ap, subst, ◌∙◌, arith, zero-add, inl, inr}
+use Rattle.std.proofs.Common.{◌≡◌, ℕ, ◌+◌, ◌-◌, ◌/◌, ◌^◌, ◌<◌, ◌≤◌, List, Bool, true, false, length, get_or, take, refl, sym, ap, subst, ◌∙◌, arith, zero-add, inl, inr}
 use Rattle.std.specs.Prelude.{◌&&◌, not}
 use Rattle.std.specs.List.{range_with_len, list_any}
 use Rattle.std.proofs.lemmas.Bool.{cases_lt, cases_Bool, and_left, and_right, and_from, not_from_true, not_from_false, lt-ltb, le-ltb, false_from_ne_true, both_ways}
+use Rattle.std.proofs.lemmas.List.{get_or-take, length-take-le}
 use Rattle.std.proofs.lemmas.List.Folds.{list_any_none, list_any_at}
 use Rattle.std.proofs.lemmas.List.FromFn.{length-range_with_len, get_or-range_with_len}
 use Rattle.implicit_tiling.specs.declared.Scheme.{Scheme}
@@ -10,6 +11,9 @@ use Rattle.implicit_tiling.specs.Tile.{branching}
 use Rattle.implicit_tiling.specs.Availability.{nodes_above}
 use Rattle.implicit_tiling.specs.Subtree.{Subtree, IsSubtree, bit_at, is_kept, node_bit, has_tile, some_node, has_orphan, has_content_alone}
 use Rattle.availability.specs.Rules.{IsKeptCount, raw_bit, raw_orphan}
+use Rattle.bitstream.specs.Bits.{ones_of}
+use Rattle.bitstream.proofs.Full.{all_true}
+use Rattle.availability.proofs.Orphans.{parent_within}
 use Rattle.availability.proofs.Places.{node_of_place, place_below, nodes_rise}
 
 -- some node passes a test, or none does
@@ -152,3 +156,19 @@ none_alone s t k n items same count n_is items_are each =
     let contents : items ≡ t.contents = items_are ∙ ap (λ (u : Subtree). u.contents) same in
     sym (no_content_alone t k count (λ c d i low below one.
     each c d i (subst (λ xs. c < length xs) (sym contents) low) (subst (λ m. i < m) (sym number) below) (ap (λ xs. bit_at (get_or xs c d) i) contents ∙ one)))
+
+-- where all nodes are there, each has its parent
+pub full_has_no_orphan : (s t : Subtree) (k n r : ℕ) → s ≡ t → IsSubtree s → IsKeptCount t k → n ≡ nodes_above s.scheme k → r ≡ ones_of (take n s.tiles) → r ≡ n → false ≡ has_orphan t
+full_has_no_orphan s t k n r same is count n_is ones full =
+    let own : IsKeptCount s k = subst (λ u. IsKeptCount u k) (sym same) count in
+    let len : length (take n s.tiles) ≡ n = length-take-le n s.tiles (tiles_long s t k n same is count n_is) in
+    let all : (i : ℕ) → i < n → bit_at s.tiles i ≡ true = λ i low.
+    sym (get_or-take n s.tiles i false low) ∙ all_true (take n s.tiles) (sym ones ∙ full ∙ sym len) i (subst (λ m. i < m) (sym len) low) in
+    sym (subst (λ u. has_orphan u ≡ false) same
+    (no_orphan s k own (λ l m one low within.
+    let above : l - 1 < k = omega arith in
+    and_right (raw_bit s.scheme s.tiles l m) (not (raw_bit s.scheme s.tiles (l - 1) (m / branching s.scheme)))
+    (not_from_true (raw_bit s.scheme s.tiles (l - 1) (m / branching s.scheme))
+    (all (nodes_above s.scheme (l - 1) + m / branching s.scheme)
+    (subst (λ a. nodes_above s.scheme (l - 1) + m / branching s.scheme < a) (sym n_is)
+    (place_below s.scheme (l - 1) k (m / branching s.scheme) above (parent_within s.scheme l m (m / branching s.scheme) one within refl))))))))

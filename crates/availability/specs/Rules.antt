@@ -35,9 +35,3 @@ abbrev pub HasOrphanAt : Scheme → List Bool → ℕ → Bool → Type 0
 HasOrphanAt scheme bits l found = MatchBool found
     ((m : ℕ) × (m < branching scheme ^ l) × (raw_orphan scheme bits l m ≡ true))
     ((m : ℕ) → m < branching scheme ^ l → raw_orphan scheme bits l m ≡ false)
-
--- whether each of the first n bits that is 1 is 1 in the others too
-abbrev pub IsWithin : List Bool → List Bool → ℕ → Bool → Type 0
-IsWithin bits other n found = MatchBool found
-    ((i : ℕ) → i < n → bit_at bits i ≡ true → bit_at other i ≡ true)
-    ((i : ℕ) × (i < n) × (bit_at bits i ≡ true) × (bit_at other i ≡ false))

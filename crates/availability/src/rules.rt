@@ -4,7 +4,7 @@ ghost use Rattle.std.specs.List.{All};
 ghost use Rattle.implicit_tiling.specs.Limits.{most_subtree_levels, most_contents};
 ghost use Rattle.implicit_tiling.specs.Availability.{nodes_above as nodes_above_of};
 ghost use Rattle.implicit_tiling.specs.Subtree.{bit_at, mask_of_bits};
-ghost use Rattle.availability.specs.Rules.{HasOrphanAt, IsWithin};
+ghost use Rattle.availability.specs.Rules.{HasOrphanAt};
 
 use crate::nodes::{axes, nodes_above, nodes_at};
 use bitstream::Bits;
@@ -44,20 +44,4 @@ pub(crate) fn has_orphan_at(scheme: Scheme, tiles: &Bits, local: u32) -> bool
         from = first + ((parent + 1) << shift);
     }
     false
-}
-
-// Whether each of the first n bits that is 1 is 1 in the other bits too.
-pub(crate) fn is_within(bits: &Bits, other: &Bits, n: u64) -> bool
-    requires own { n ≤ length bits.now }
-    requires others { n ≤ length other.now }
-    ensures { IsWithin bits.now other.now n result }
-{
-    let mut from = 0;
-    while let Some(place) = bits.next_one(from, n) {
-        if !other.get(place) {
-            return false;
-        }
-        from = place + 1;
-    }
-    true
 }

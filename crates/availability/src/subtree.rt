@@ -5,7 +5,7 @@ ghost use Rattle.implicit_tiling.specs.Subtree.{is_kept as is_kept_of, has_tile,
 ghost use Rattle.availability.specs.Rules.{rule_fault, IsKeptCount};
 
 use crate::nodes::nodes_above;
-use crate::rules::{has_orphan_at, is_within, mask_at};
+use crate::rules::{has_orphan_at, mask_at};
 use bitstream::Bits;
 use std::marker::Model;
 use tile_coords::{Scheme, Tile};
@@ -70,8 +70,8 @@ impl Subtree {
         mask_at(&self.contents, nodes_above(self.scheme, local) + index)
     }
 
-    /// Whether there is a subtree below the node of this index of the last local level: the index is that of its root
-    /// within the level below (OGC 22-025r4, child subtree availability).
+    /// Whether there is a child subtree whose root has this index in the level below the last local one
+    /// (OGC 22-025r4, child subtree availability).
     pub fn child_at(&self, index: u64) -> bool
         requires { index < branching self.now.scheme ^ self.now.levels }
         ensures { result ≡ has_child self.now index }
@@ -108,10 +108,16 @@ impl Subtree {
         self.levels.min(self.cut - self.root.level)
     }
 
+    // Where all nodes are there, as those of a constant 1, no parent is looked at.
     fn has_orphan(&self) -> bool
         ensures { result ≡ has_orphan_of self.now }
     {
-        for local in 1..self.kept_levels() {
+        let kept = self.kept_levels();
+        let nodes = nodes_above(self.scheme, kept);
+        if self.tiles.ones(nodes) == nodes {
+            return false;
+        }
+        for local in 1..kept {
             if has_orphan_at(self.scheme, &self.tiles, local) {
                 return true;
             }
@@ -124,7 +130,7 @@ impl Subtree {
     {
         let kept = nodes_above(self.scheme, self.kept_levels());
         for bits in &self.contents {
-            if !is_within(bits, &self.tiles, kept) {
+            if !bits.is_within(&self.tiles, kept) {
                 return true;
             }
         }

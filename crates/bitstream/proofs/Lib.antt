@@ -3,3 +3,5 @@ pub mod Lists
 pub mod Ones
 pub mod Parts
 pub mod Search
+pub mod Apart
+pub mod Full

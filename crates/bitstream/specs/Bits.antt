@@ -31,3 +31,10 @@ pub record IsFirstOne (bit : ℕ → Bool) (from to place : ℕ) : Type 0 where
   pub high : place < to
   pub one : bit place ≡ true
   pub before : HasNoOne bit from place
+
+-- each of the first n places that has a 1 has one in the other bits too; or one of them has none there
+abbrev pub IsWithin : (ℕ → Bool) → (ℕ → Bool) → ℕ → Type 0
+IsWithin bit other n = (i : ℕ) → i < n → bit i ≡ true → other i ≡ true
+
+abbrev pub HasOneAlone : (ℕ → Bool) → (ℕ → Bool) → ℕ → Type 0
+HasOneAlone bit other n = (i : ℕ) × (i < n) × (bit i ≡ true) × (other i ≡ false)

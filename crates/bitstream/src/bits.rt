@@ -1,7 +1,8 @@
 // Bits: a constant or a bitstream.
-ghost use Rattle.std.specs.Prelude.{◌≡◌, ◌*◌, ◌<◌, ◌≤◌, ◌↔◌, IfSome, IsNone, MatchOption, length, replicate, take};
-ghost use Rattle.bitstream.specs.Bits.{bit_at, bits_of_bytes, ones_of, HasNoOne, IsFirstOne};
+ghost use Rattle.std.specs.Prelude.{◌≡◌, ◌*◌, ◌<◌, ◌≤◌, ◌↔◌, IfSome, IsNone, MatchBool, MatchOption, length, replicate, take};
+ghost use Rattle.bitstream.specs.Bits.{bit_at, bits_of_bytes, ones_of, HasNoOne, IsFirstOne, IsWithin, HasOneAlone};
 
+use crate::within::has_all_of;
 use crate::words::{first_one_in, ones_in};
 use std::marker::Model;
 
@@ -96,6 +97,21 @@ impl Bits {
         match &self.kind {
             Kind::Constant { bit, .. } => (*bit && from < to).then_some(from),
             Kind::Bytes { bytes, .. } => first_one_in(bytes, from, to),
+        }
+    }
+
+    /// Whether each of the first n bits that is 1 is 1 in the other bits too. Bitstreams are compared by words.
+    pub fn is_within(&self, other: &Bits, n: u64) -> bool
+        requires own { n ≤ length self.now }
+        requires others { n ≤ length other.now }
+        ensures { MatchBool result (IsWithin (bit_at self.now) (bit_at other.now) n) (HasOneAlone (bit_at self.now) (bit_at other.now) n) }
+    {
+        match (&self.kind, &other.kind) {
+            (Kind::Constant { bit, .. }, _) => !*bit || other.ones(n) == n,
+            (_, Kind::Constant { bit, .. }) => *bit || self.next_one(0, n).is_none(),
+            (Kind::Bytes { bytes, .. }, Kind::Bytes { bytes: others, .. }) => {
+                has_all_of(others, bytes, n)
+            }
         }
     }
 }

@@ -3,6 +3,7 @@
 #![tactic(auto)]
 
 mod bits;
+mod within;
 mod words;
 
 pub use bits::Bits;

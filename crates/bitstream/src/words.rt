@@ -3,14 +3,14 @@ ghost use Rattle.std.specs.Prelude.{◌≡◌, ◌*◌, ◌^◌, ◌<◌, ◌≤
 ghost use Rattle.bitstream.specs.Bits.{bit_of_bytes, bits_of_bytes, ones_of, HasNoOne, IsFirstOne};
 ghost use Rattle.bitstream.specs.Words.{IsWordOf};
 
-fn word_of(bytes: [u8; 8]) -> u64
+pub(crate) fn word_of(bytes: [u8; 8]) -> u64
     ensures { IsWordOf bytes result }
 {
     u64::from_le_bytes(bytes)
 }
 
 // The word of the first 8 bytes.
-fn first_word(bytes: &[u8]) -> u64
+pub(crate) fn first_word(bytes: &[u8]) -> u64
     ensures { IsWordOf bytes.now result }
 {
     let (words, rest) = bytes.as_chunks::<8>();

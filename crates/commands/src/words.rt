@@ -1,128 +1,120 @@
-// Reading the words of a command line.
-ghost use Rattle.std.specs.Prelude.{◌≡◌, ◌==◌, ◌<◌, IfSome, position, ◌∷◌, ◌&&◌, List, [], map, MatchOption, string_bytes, length, option_map};
-ghost use Rattle.std.specs.List.{slice_split, list_all};
-ghost use Rattle.std.specs.Char.{is_ascii_digit};
-ghost use Rattle.implicit_tiling.specs.Request.{number as number_in, coordinates as coordinates_in, has_digits as digits_in, begins_well as begins, line_of_words, asked, without_dashes};
-ghost use Rattle.commands.specs.Words.{line_seen, coordinates_seen, IsCut};
+// The words of a command line.
+ghost use Rattle.std.specs.Prelude.{◌≡◌, ◌∷◌, [], map, string_bytes, IfOk};
+ghost use Rattle.std.specs.List.{join_with_byte};
+ghost use Rattle.commands.specs.Words.{asked, tiles_asked, check_asked, without_dashes, Reads};
 
-/// Two or three numbers.
-#[derive(Clone, Copy, Debug, PartialEq, Eq)]
-pub enum Coordinates {
-    Two(u32, u32),
-    Three(u32, u32, u32),
+use request_text::{is_coordinates, is_number};
+use std::alloc::{AllocError, Global};
+
+/// What a command line asks for.
+#[derive(Debug, Drop)]
+pub enum Asked {
+    /// The answer to a request line, LEVEL LO HI.
+    Tiles { line: String },
+    /// A check of all subtree files.
+    Check,
 }
 
-/// The numbers of a request line.
+/// Why words ask for nothing.
 #[derive(Clone, Copy, Debug, PartialEq, Eq)]
-pub struct Line {
-    pub level: u32,
-    pub lo: Coordinates,
-    pub hi: Coordinates,
+pub enum WordFault {
+    /// The words aren't those of a command.
+    Usage,
+    /// There was no memory.
+    Memory,
 }
 
-/// The line that the words of a command line ask for.
-pub fn words_of(words: &[String]) -> Option<Line>
-    ensures { option_map line_seen result ≡ asked (map string_bytes words.now) }
-{
-    let (name, words) = words.split_first()?;
-    if name.as_str() != "tiles" {
-        return None;
+impl From<AllocError> for WordFault {
+    ghost use Rattle.commands.specs.declared.words.WordFault.TheVariants.{Memory};
+
+    ghost from_gives = { λ _ fault. fault ≡ Memory };
+
+    fn from(_error: AllocError) -> WordFault {
+        WordFault::Memory
     }
-    line_of(words)
 }
 
-// The line of three words, not counting the first that is `--`.
-fn line_of(words: &[String]) -> Option<Line>
-    ensures { option_map line_seen result ≡ line_of_words (without_dashes (map string_bytes words.now)) }
+/// What the words behind the program's name ask for: a command's name, then its words, of which the first that is `--` is
+/// dropped. Usage exactly where they are not the words of a command.
+pub fn words_of(alloc: Global, words: &[String]) -> Result<Asked, WordFault>
+    ensures { Reads (asked (map string_bytes words.now)) result }
 {
+    let Some((name, words)) = words.split_first() else {
+        return Err(WordFault::Usage);
+    };
+    match name.as_str() {
+        "tiles" => tiles_of(alloc, words),
+        "check" => check_of(words),
+        _ => Err(WordFault::Usage),
+    }
+}
+
+// What the words behind `tiles` ask for.
+fn tiles_of(alloc: Global, words: &[String]) -> Result<Asked, WordFault>
+    ensures { Reads (tiles_asked (without_dashes (map string_bytes words.now))) result }
+{
+    if words.len() < 3 || words.len() > 4 {
+        return Err(WordFault::Usage);
+    }
     match words {
-        [level, lo, hi] => line_of_three(level.as_bytes(), lo.as_bytes(), hi.as_bytes()),
+        [level, lo, hi] => line_of(alloc, level.as_str(), lo.as_str(), hi.as_str()),
         [first, second, third, last] => {
             if first.as_str() == "--" {
-                line_of_three(second.as_bytes(), third.as_bytes(), last.as_bytes())
+                line_of(alloc, second.as_str(), third.as_str(), last.as_str())
             } else if second.as_str() == "--" {
-                line_of_three(first.as_bytes(), third.as_bytes(), last.as_bytes())
+                line_of(alloc, first.as_str(), third.as_str(), last.as_str())
             } else if third.as_str() == "--" {
-                line_of_three(first.as_bytes(), second.as_bytes(), last.as_bytes())
+                line_of(alloc, first.as_str(), second.as_str(), last.as_str())
             } else if last.as_str() == "--" {
-                line_of_three(first.as_bytes(), second.as_bytes(), third.as_bytes())
+                line_of(alloc, first.as_str(), second.as_str(), third.as_str())
             } else {
-                None
+                Err(WordFault::Usage)
             }
         }
-        _ => None,
+        _ => unreachable!(),
     }
 }
 
-fn line_of_three(level: &[u8], lo: &[u8], hi: &[u8]) -> Option<Line>
-    ensures { option_map line_seen result ≡ line_of_words (level.now ∷ lo.now ∷ hi.now ∷ []) }
+// The line of three words of its forms.
+fn line_of(alloc: Global, level: &str, lo: &str, hi: &str) -> Result<Asked, WordFault>
+    ensures { Reads (tiles_asked (level.now ∷ lo.now ∷ hi.now ∷ [])) result }
 {
-    let level = read_number(level)?;
-    let lo = read_coordinates(lo)?;
-    let hi = read_coordinates(hi)?;
-    Some(Line { level, lo, hi })
-}
-
-/// The number that a text writes.
-fn read_number(text: &[u8]) -> Option<u32>
-    ensures { result ≡ number_in text.now }
-{
-    if !has_digits(text) {
-        return None;
+    if !is_number(level.as_bytes())
+        || !is_coordinates(lo.as_bytes())
+        || !is_coordinates(hi.as_bytes())
+    {
+        return Err(WordFault::Usage);
     }
-    let Ok(text) = str::from_utf8(text) else {
-        return None;
-    };
-    text.parse::<u32>().ok()
+    let line = joined(alloc, level, lo, hi)?;
+    Ok(Asked::Tiles { line })
 }
 
-// Digits without a leading zero.
-fn has_digits(text: &[u8]) -> bool
-    ensures { result ≡ digits_in text.now }
+// Three words, joined by single spaces.
+fn joined(alloc: Global, level: &str, lo: &str, hi: &str) -> Result<String, AllocError>
+    ensures { IfOk result (λ line. string_bytes line ≡ join_with_byte 32 (level.now ∷ lo.now ∷ hi.now ∷ [])) }
 {
-    begins_well(text) && are_digits(text)
+    let mut line = String::new(alloc);
+    line.push_str(level)?;
+    line.push(' ')?;
+    line.push_str(lo)?;
+    line.push(' ')?;
+    line.push_str(hi)?;
+    Ok(line)
 }
 
-fn begins_well(text: &[u8]) -> bool
-    ensures { result ≡ begins text.now }
+// What the words behind `check` ask for.
+fn check_of(words: &[String]) -> Result<Asked, WordFault>
+    ensures { Reads (check_asked (without_dashes (map string_bytes words.now))) result }
 {
-    if text.is_empty() {
-        return false;
+    match words {
+        [] => Ok(Asked::Check),
+        [only] => {
+            if only.as_str() == "--" {
+                Ok(Asked::Check)
+            } else {
+                Err(WordFault::Usage)
+            }
+        }
+        _ => Err(WordFault::Usage),
     }
-    text.len() == 1 || text[0] != b'0'
-}
-
-fn are_digits(text: &[u8]) -> bool
-    ensures { result ≡ list_all is_ascii_digit text.now }
-{
-    text.iter().all(|b| b.is_ascii_digit())
-}
-
-/// The numbers of a list.
-fn read_coordinates(text: &[u8]) -> Option<Coordinates>
-    ensures { option_map coordinates_seen result ≡ coordinates_in text.now }
-{
-    let (x, rest) = cut(text)?;
-    let Some((y, z)) = cut(rest) else {
-        return Some(Coordinates::Two(read_number(x)?, read_number(rest)?));
-    };
-    if cut(z).is_some() {
-        return None;
-    }
-    Some(Coordinates::Three(read_number(x)?, read_number(y)?, read_number(z)?))
-}
-
-// A text cut at its first comma.
-fn cut(text: &[u8]) -> Option<(&[u8], &[u8])>
-    ensures { IsCut text.now result }
-{
-    let at = first_comma(text)?;
-    Some((&text[..at], &text[at + 1..]))
-}
-
-fn first_comma(text: &[u8]) -> Option<usize>
-    ensures place { result ≡ position (λ c. c == 44) text.now }
-    ensures within { IfSome result (λ at. at < length text.now) }
-{
-    text.iter().position(|b| *b == b',')
 }

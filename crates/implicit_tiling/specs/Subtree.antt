@@ -33,7 +33,7 @@ node_bit s bits l m = is_kept s l && bit_at bits (nodes_above s.scheme l + m)
 abbrev pub has_tile : Subtree → ℕ → ℕ → Bool
 has_tile s l m = node_bit s s.tiles l m
 
--- the bit of the child subtree below the node of local index m of the last local level
+-- the bit of the child subtree of local index m, among those below the last local level
 abbrev pub has_child : Subtree → ℕ → Bool
 has_child s m = is_kept s s.levels && bit_at s.child m
 

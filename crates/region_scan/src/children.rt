@@ -3,7 +3,7 @@ ghost use Rattle.std.specs.Prelude.{◌≡◌, ◌+◌, ◌++◌, ◌<◌, IfOk,
 ghost use Rattle.implicit_tiling.specs.Nodes.{child_words};
 ghost use Rattle.region_scan.specs.Found.{Extends};
 
-use crate::nodes::{child_in, is_looked_at};
+use crate::nodes::{child_in, first_at, is_looked_at};
 use availability::{Subtree, nodes_at};
 use std::alloc::AllocError;
 use tile_coords::{Region, Word};
@@ -35,8 +35,9 @@ fn append_roots(subtree: &Subtree, region: &Region, out: &mut Vec<Word>) -> Resu
     ensures appended { IfOk result (λ done. out.new.items ≡ out.old.items ++ child_words subtree.now region.now) }
     ensures begun { IfErr result (λ e. Extends out.old.items out.new.items) }
 {
+    let first = first_at(subtree, subtree.levels);
     for index in 0..nodes_at(subtree.scheme, subtree.levels) {
-        if let Some(word) = child_in(subtree, region, index) {
+        if let Some(word) = child_in(subtree, first, region, index) {
             out.push(word)?;
         }
     }

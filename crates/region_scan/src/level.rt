@@ -3,7 +3,7 @@ ghost use Rattle.std.specs.Prelude.{◌≡◌, ◌+◌, ◌++◌, ◌<◌, IfOk,
 ghost use Rattle.implicit_tiling.specs.Nodes.{level_words};
 ghost use Rattle.region_scan.specs.Found.{Extends};
 
-use crate::nodes::{is_looked_at, tile_in};
+use crate::nodes::{first_at, is_looked_at, tile_in};
 use availability::{Subtree, nodes_at};
 use std::alloc::AllocError;
 use tile_coords::{Region, Word};
@@ -47,9 +47,10 @@ fn append_tiles(
     ensures more { IfOk result (λ more. more ≡ nat_lt limit (length (level_words subtree.now region.now local))) }
     ensures begun { IfErr result (λ e. Extends out.old.items out.new.items) }
 {
+    let first = first_at(subtree, local);
     let mut left = limit;
     for index in 0..nodes_at(subtree.scheme, local) {
-        if let Some(word) = tile_in(subtree, local, region, index) {
+        if let Some(word) = tile_in(subtree, local, first, region, index) {
             if left == 0 {
                 return Ok(true);
             }

@@ -4,11 +4,11 @@
 
 mod children;
 mod level;
-//pub mod node_laws;
+pub mod node_laws;
 mod nodes;
 
 pub use children::child_roots;
 pub use level::level_tiles;
 
-//#[cfg(test)]
-//mod tests;
+#[cfg(test)]
+mod tests;

@@ -1,11 +1,10 @@
 -- Reading lines: pieces between separators, and numbers.
-use Rattle.std.proofs.Common.{◌≡◌, ◌≢◌, ℕ, suc, ◌+◌, ◌-◌, ◌<◌, ◌≤◌, ◌^◌, Bool, true, false, List, [], ◌∷◌, length, take, drop, get_or, refl, sym, ap, ◌∙◌, arith, cond, codes, rules}
-use Rattle.std.specs.Prelude.{Option, Some, None, is_some, Result, Ok, Err, nat_lt, nat_le, ◌==◌, IsUtf8, option_and_then, position}
+use Rattle.std.proofs.Common.{◌≡◌, ℕ, ◌+◌, ◌-◌, ◌<◌, ◌≤◌, ◌^◌, Bool, true, false, List, [], ◌∷◌, length, take, drop, refl, sym, ap, ◌∙◌, arith, cond, rules}
+use Rattle.std.specs.Prelude.{Option, Some, None, is_some, Result, Ok, Err, nat_lt, nat_le, ◌==◌, IsUtf8, position}
 use Rattle.std.specs.List.{slice_split, position_or_len, list_all}
 use Rattle.std.specs.Char.{is_ascii_digit}
 use Rattle.std.specs.Result.{OkIff, result_ok}
-use Rattle.std.specs.Str.{bytes_eq, IsAscii}
-use Rattle.std.proofs.lemmas.Slice.Eq.{bytes_eq-Decides}
+use Rattle.std.specs.Str.{IsAscii}
 use Rattle.std.proofs.lemmas.Str.Ascii.{IsAscii-nil, IsAscii-cons}
 use Rattle.std.proofs.lemmas.Str.{IsUtf8-from_ascii}
 use Rattle.std.proofs.lemmas.List.{take_rest}

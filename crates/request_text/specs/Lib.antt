@@ -1,3 +1,5 @@
 pub mod Ends
 pub mod Fields
+pub mod Found
+pub mod Laws
 pub mod Lines

@@ -3,8 +3,12 @@
 //! of an answer and nothing else.
 #![tactic(auto)]
 
+mod check_text;
+mod fields;
+pub mod laws;
 mod line;
 mod text;
 
+pub use check_text::write_check;
 pub use line::{Refusal, is_coordinates, is_number, parse_line};
 pub use text::{write_answer, write_refusal};

@@ -13,8 +13,8 @@ ghost use Rattle.scene_ports.specs.Output.{GivesFront};
 ghost use Rattle.request_text.specs.Fields.{joined, after_tab};
 ghost use Rattle.request_text.specs.Ends.{HasWord};
 
+use crate::fields::{push_coordinates, push_count, push_field, push_number, push_place};
 use availability::{WordTile, tile_of};
-use itoa::Buffer;
 use scene_ports::{GiveFault, Outlet, give_rest, give_when_full};
 use std::alloc::{AllocError, Global};
 use tile_coords::{Scheme, Tile, WalkEnd, Word};
@@ -66,8 +66,7 @@ fn push_refusal(number: u64, piece: &mut String) -> Result<(), AllocError>
     ensures { OnOk result (string_bytes piece.new ≡ string_bytes piece.old ++ refused_text number) }
 {
     piece.push_str("refused\t")?;
-    let mut digits = Buffer::new();
-    piece.push_str(digits.format(number))?;
+    push_number(number, piece)?;
     piece.push('\n')
 }
 
@@ -114,16 +113,6 @@ fn push_end_line(
     }
 }
 
-// Appends a text, a number and LF.
-fn push_count(text: &str, count: usize, piece: &mut String) -> Result<(), AllocError>
-    ensures { OnOk result (string_bytes piece.new ≡ string_bytes piece.old ++ (text.now ++ (decimal count ++ 10 ∷ []))) }
-{
-    piece.push_str(text)?;
-    let mut digits = Buffer::new();
-    piece.push_str(digits.format(count))?;
-    piece.push('\n')
-}
-
 // Appends the end line of a walk that ended at the fault of a root.
 fn push_fault(
     scheme: Scheme,
@@ -135,46 +124,12 @@ fn push_fault(
     requires { IsWord scheme root }
     ensures { OnOk result (string_bytes piece.new ≡ string_bytes piece.old ++ end_line scheme count (fault (word_tile scheme root) number)) }
 {
-    let Some(WordTile { tile, .. }) = tile_of(scheme, root) else {
-        unreachable!()
-    };
-    let mut digits = Buffer::new();
-    piece.push_str("end\tfault\t")?;
-    piece.push_str(digits.format(count))?;
+    piece.push_str("end\tfault")?;
+    push_field(count as u64, piece)?;
+    push_field(number, piece)?;
     piece.push('\t')?;
-    piece.push_str(digits.format(number))?;
-    piece.push('\t')?;
-    push_coordinates(scheme, &tile, piece)?;
+    push_place(scheme, root, piece)?;
     piece.push('\n')
-}
-
-// Appends the level and the coordinates of a tile, joined by TAB.
-fn push_coordinates(scheme: Scheme, tile: &Tile, piece: &mut String) -> Result<(), AllocError>
-    ensures { OnOk result (string_bytes piece.new ≡ string_bytes piece.old ++ joined (coordinates scheme tile.now)) }
-{
-    push_number(tile.level, piece)?;
-    push_field(tile.x, piece)?;
-    push_field(tile.y, piece)?;
-    match scheme {
-        Scheme::Quad => Ok(()),
-        Scheme::Oct => push_field(tile.z, piece),
-    }
-}
-
-// Appends a number in decimal.
-fn push_number(number: u32, piece: &mut String) -> Result<(), AllocError>
-    ensures { OnOk result (string_bytes piece.new ≡ string_bytes piece.old ++ decimal number) }
-{
-    let mut digits = Buffer::new();
-    piece.push_str(digits.format(number))
-}
-
-// Appends a TAB and a number.
-fn push_field(number: u32, piece: &mut String) -> Result<(), AllocError>
-    ensures { OnOk result (string_bytes piece.new ≡ string_bytes piece.old ++ after_tab (decimal number)) }
-{
-    piece.push('\t')?;
-    push_number(number, piece)
 }
 
 // Appends, each after a TAB, the filled templates whose bit of the mask is 1.

@@ -1,5 +1,5 @@
 -- The subtree of a row is one.
-use Rattle.std.proofs.Common.{◌≡◌, ℕ, ◌≤◌, ◌<◌, List, Bool, true, [], ◌∷◌, ◌++◌, length, ap, sym, subst, ◌∙◌, arith, lit≤}
+use Rattle.std.proofs.Common.{◌≡◌, ◌≤◌, List, Bool, true, [], ◌∷◌, ◌++◌, length, ap, sym, subst, ◌∙◌, arith, lit≤}
 use Rattle.std.specs.List.{All}
 use Rattle.std.proofs.lemmas.List.{length-replicate}
 use Rattle.std.proofs.lemmas.List.Elements.{All-cons, All-nil}

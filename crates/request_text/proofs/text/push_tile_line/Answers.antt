@@ -1,7 +1,7 @@
-use Rattle.std.proofs.Common.{◌≡◌, ℕ, List, ap, sym, ◌∙◌, string_bytes, ◌++◌, ◌∷◌, []}
+use Rattle.std.proofs.Common.{◌≡◌, ap, ◌∙◌, string_bytes, ◌∷◌, []}
 use lib.Utf8.{encode}
 use Rattle.implicit_tiling.specs.Scene.{Layout}
-use Rattle.request_text.proofs.Fields.{line_written, on_ok, pushed}
+use Rattle.request_text.proofs.Joined.{line_written, on_ok, pushed}
 use Rattle.request_text.proofs.text.push_tile_line.Goals as goal
 
 pub returns : goal.returns

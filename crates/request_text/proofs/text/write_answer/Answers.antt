@@ -1,12 +1,10 @@
-use Rattle.std.proofs.Common.{◌≡◌, ◌++◌, ◌∙◌, arith, take, length, take_all, string_bytes, List, ℕ, ap}
-use Rattle.std.specs.List.{flat_map}
+use Rattle.std.proofs.Common.{◌≡◌, ◌++◌, ◌∙◌, arith, take, length, take_all, List, ℕ, ap}
 use Rattle.implicit_tiling.specs.Scene.{Layout}
 use Rattle.implicit_tiling.specs.declared.Scheme.{Scheme}
 use Rattle.implicit_tiling.specs.Text.{word_line, step_end_line}
 use Rattle.tile_coords.specs.Ends.{end_seen}
-use Rattle.scene_ports.specs.Output.{GivesAllBut}
 use Rattle.scene_ports.proofs.Giving.{all_but_front}
-use Rattle.request_text.proofs.Fields.{on_ok}
+use Rattle.request_text.proofs.Joined.{on_ok}
 use Rattle.request_text.proofs.Lines.{lines_front, line_given, line_front, end_given, end_front}
 use Rattle.request_text.proofs.text.write_answer.Goals as goal
 
@@ -16,11 +14,11 @@ returns-in_err-push_word_line-clause-front g c =
 
 pub returns-in_err-give_when_full-clause-front : goal.returns-in_err-give_when_full-clause-front
 returns-in_err-give_when_full-clause-front g c =
-    line_front _ _ _ (word_line c.args.layout.now) c.args.words.now c.loop-word.word-index _ _ _ (omega arith) c.loop-word.invariant.lines c.in_ok-push_word_line.ensures c.give_when_full.ensures.front
+    line_front _ _ _ (word_line c.args.layout.now) c.args.words.now c.loop-word.word-index 0 _ _ _ (omega arith) c.loop-word.invariant.lines c.in_ok-push_word_line.ensures c.give_when_full.ensures.front
 
 pub loop-word-preserved : goal.loop-word-preserved
 loop-word-preserved g c = record {
-  lines = line_given _ _ _ (word_line c.args.layout.now) c.args.words.now c.loop-word.word-index _ _ _ (omega arith) c.loop-word.invariant.lines c.in_ok-push_word_line.ensures c.in_ok-give_when_full.ensures.given;
+  lines = line_given _ _ _ (word_line c.args.layout.now) c.args.words.now c.loop-word.word-index 0 _ _ _ (omega arith) c.loop-word.invariant.lines c.in_ok-push_word_line.ensures c.in_ok-give_when_full.ensures.given;
   later = omega (arith, c.give_when_full.ensures.later, c.loop-word.invariant.later);
   left_aside = c.give_when_full.ensures.left_aside ∙ c.loop-word.invariant.left_aside;
   taken_aside = c.give_when_full.ensures.taken_aside ∙ c.loop-word.invariant.taken_aside;

@@ -1,9 +1,0 @@
-use Rattle.std.proofs.Common.{sym, ◌∙◌}
-use Rattle.commands.proofs.Reading.{cut_some, cut_none}
-use Rattle.commands.proofs.words.cut.Goals as goal
-
-pub returns-in_err-at : goal.returns-in_err-at
-returns-in_err-at c = rw c.from_residual.ensures (cut_none _ c.args.text.now (sym c.first_comma.ensures.place ∙ c.in_err-at.was))
-
-pub returns : goal.returns
-returns c = cut_some _ c.args.text.now c.in_ok-at.at (sym c.in_ok-at.ensures.place)

@@ -1,0 +1,40 @@
+// Fetching the layout.
+ghost use Rattle.std.specs.Prelude.{◌≡◌, ◌≤◌, Err, IfSome, IfErr};
+ghost use Rattle.scene_ports.specs.Counts.{Rose};
+ghost use Rattle.commands.specs.Replies.{layout_in, Agrees, IsEarly};
+
+use crate::status::Status;
+use scene_ports::{Fetch, FileSource};
+use std::alloc::Global;
+use tileset_json::{Layout, LayoutFault};
+
+/// The most bytes of a file.
+const MOST_FILE_BYTES: usize = 16777216;
+
+/// The faults of `tileset.json` that a fetch shows.
+const MISSING: u64 = 1;
+
+const TOO_LONG: u64 = 2;
+
+/// Fetches `tileset.json` and reads the layout. The `Err` is the status with which the program ends.
+pub fn fetch_layout<S: FileSource>(alloc: Global, files: &mut S) -> Result<Layout, Status>
+    ensures agrees { IfSome (S.told files.old) (λ all. Agrees (layout_in all) result) }
+    ensures early { IfErr result IsEarly }
+    ensures failed { result ≡ Err Status.ReadFault → Rose (S.faults files.old) (S.faults files.new) }
+    ensures later { S.faults files.old ≤ S.faults files.new }
+    ensures same { S.told files.new ≡ S.told files.old }
+{
+    let mut bytes = Vec::new(alloc);
+    match files.fetch("tileset.json", MOST_FILE_BYTES, &mut bytes) {
+        Fetch::Whole => {}
+        Fetch::Missing => return Err(Status::BadLayout(MISSING)),
+        Fetch::TooLong => return Err(Status::BadLayout(TOO_LONG)),
+        Fetch::Failed => return Err(Status::ReadFault),
+        Fetch::Memory => return Err(Status::Memory),
+    }
+    match Layout::read(alloc, &bytes) {
+        Ok(layout) => Ok(layout),
+        Err(LayoutFault::Number(number)) => Err(Status::BadLayout(number)),
+        Err(LayoutFault::Memory) => Err(Status::Memory),
+    }
+}
