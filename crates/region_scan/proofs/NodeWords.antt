@@ -1,6 +1,6 @@
 -- The words of nodes, and the lists of those that are found.
-use Rattle.std.proofs.Common.{◌≡◌, ℕ, ◌+◌, ◌-◌, ◌*◌, ◌/◌, ◌%◌, ◌^◌, ◌<◌, ◌≤◌, Bool, true, false, List, [], ◌∷◌, length, map, cond, get_or, refl, sym, ap, subst, ◌∙◌, arith, lit<, zero-add}
-use Rattle.std.specs.Prelude.{◌&&◌, nat_lt, filter}
+use Rattle.std.proofs.Common.{◌≡◌, ℕ, ◌+◌, ◌-◌, ◌/◌, ◌^◌, ◌<◌, ◌≤◌, Bool, true, false, List, [], ◌∷◌, length, map, cond, get_or, refl, sym, ap, subst, ◌∙◌, arith, lit<}
+use Rattle.std.specs.Prelude.{◌&&◌, filter}
 use Rattle.std.specs.List.{All, AllPairs, range_with_len}
 use Rattle.std.proofs.Math.Nat.{pow-le-pow_right}
 use Rattle.std.proofs.lemmas.Bool.{and_parts, ltb-true}
@@ -8,18 +8,17 @@ use Rattle.std.proofs.lemmas.List.{length-map, get_or-map}
 use Rattle.std.proofs.lemmas.List.Elements.{All-nil, All-cons, All-head, All-tail, All-map}
 use Rattle.std.proofs.lemmas.List.Kept.{AllPairs-filter}
 use Rattle.std.proofs.lemmas.List.FromFn.{get_or-range_with_len, length-range_with_len}
-use Rattle.implicit_tiling.specs.Limits.{most_levels}
-use Rattle.implicit_tiling.specs.Tile.{Tile, branching, ancestor, index, is_key_below}
+use Rattle.implicit_tiling.specs.Tile.{branching, ancestor, is_key_below}
 use Rattle.implicit_tiling.specs.Region.{Region, is_in}
-use Rattle.implicit_tiling.specs.Code.{word, word_level, word_mask, word_tile}
+use Rattle.implicit_tiling.specs.Code.{word, word_tile}
 use Rattle.implicit_tiling.specs.Availability.{nodes_above}
 use Rattle.implicit_tiling.specs.Subtree.{Subtree, IsSubtree, is_kept, bit_at, node_bit, has_tile, has_child, contents_mask}
-use Rattle.implicit_tiling.specs.Nodes.{node_at, indices, is_tile_in, node_word, level_words, is_child_in, child_word, child_words}
+use Rattle.implicit_tiling.specs.Nodes.{node_at, is_tile_in, node_word, is_child_in, child_word}
 use Rattle.tiling_laws.proofs.Order.{below_by_index}
 use Rattle.availability.specs.Words.{HasWord}
 use Rattle.availability.proofs.Masks.{mask_below}
 use Rattle.availability.proofs.Tiles.{level_of_word, mask_of_word, tile_of_word, word_is_word}
-use Rattle.region_scan.specs.NodeLaws.{IsNodeWord, WordsAreFound, RiseInKeyOrder, WordsRiseInKeyOrder}
+use Rattle.region_scan.specs.NodeLaws.{IsNodeWord, WordsAreFound, WordsRiseInKeyOrder}
 use Rattle.region_scan.proofs.NodeTiles.{node_is_tile, node_level, node_index, root_above}
 
 pub words_rise : (s : Subtree) (l m n mask : ℕ) → m < n → n < branching s.scheme ^ l → word s.scheme (node_at s l m) mask < word s.scheme (node_at s l n) mask

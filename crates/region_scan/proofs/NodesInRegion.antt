@@ -1,7 +1,8 @@
 -- Which nodes are in a region, by their coordinates, and their children.
-use Rattle.std.proofs.Common.{◌≡◌, ℕ, zero, suc, ◌+◌, ◌-◌, ◌*◌, ◌/◌, ◌%◌, ◌^◌, ◌<◌, ◌≤◌, Bool, true, refl, sym, ap, subst, ◌∙◌, arith}
+use Rattle.std.proofs.Common.{◌≡◌, ℕ, zero, suc, ◌+◌, ◌-◌, ◌*◌, ◌/◌, ◌%◌, ◌^◌, ◌<◌, Bool, true, sym, ap, subst, ◌∙◌, arith, add-zero}
 use Rattle.std.specs.Prelude.{◌&&◌, ◌↔◌, nat_le, slice_index}
 use Rattle.std.proofs.lemmas.Bool.{and_parts, and_from, leb-true, le-leb}
+use Rattle.std.proofs.Math.Nat.{div-div-eq-div-mul, pow-succ'}
 use Rattle.std.proofs.lemmas.Nat.{shr-shr}
 use Rattle.implicit_tiling.specs.declared.Scheme.{Scheme}
 use Rattle.implicit_tiling.specs.declared.Scheme.TheVariants.{Quad, Oct}
@@ -91,3 +92,21 @@ node_children s region l m n h = record {
       ∙ ap (child (node_at s l m)) (remainder s.scheme m n h);
   in_region = parent_in region (node_at s l m) n;
 }
+
+-- a node is in the region only where each node above it is
+no_place : (scheme : Scheme) (m : ℕ) → m ≡ m / branching scheme ^ 0
+no_place Quad m = omega arith
+no_place Oct m = omega arith
+
+more_places : (n m k : ℕ) → m / n / n ^ k ≡ m / n ^ suc k
+more_places n m k = div-div-eq-div-mul m n (n ^ k) ∙ ap (λ e. m / e) (sym (pow-succ' n k))
+
+pub node_above_in : (s : Subtree) (region : Region) (l k m : ℕ) → is_in region (node_at s (l + k) m) ≡ true → is_in region (node_at s l (m / branching s.scheme ^ k)) ≡ true
+node_above_in s region l zero m h =
+    ap (λ j. is_in region (node_at s l j)) (sym (no_place s.scheme m)) ∙ ap (λ j. is_in region (node_at s j m)) (sym (add-zero l)) ∙ h
+node_above_in s region l (suc k) m h =
+    let n = branching s.scheme in
+    let count : l + k + 1 ≡ l + suc k = omega arith in
+    let up : is_in region (node_at s (l + k) (m / n)) ≡ true =
+    parent_in region (node_at s (l + k) (m / n)) (m % n) (ap (is_in region) (sym (node_child s (l + k) m)) ∙ ap (λ j. is_in region (node_at s j m)) count ∙ h) in
+    ap (λ j. is_in region (node_at s l j)) (sym (more_places n m k)) ∙ node_above_in s region l k (m / n) up

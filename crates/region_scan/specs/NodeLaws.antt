@@ -1,11 +1,11 @@
 -- Laws of a subtree's nodes, of which of them are in a region, and of the words that are found (this project's own).
-use Rattle.std.specs.Prelude.{ℕ, ◌≡◌, ◌+◌, ◌-◌, ◌*◌, ◌/◌, ◌%◌, ◌^◌, ◌<◌, ◌≤◌, ◌↔◌, true, List, length, slice_index}
+use Rattle.std.specs.Prelude.{ℕ, ◌≡◌, ◌+◌, ◌-◌, ◌*◌, ◌/◌, ◌^◌, ◌<◌, ◌≤◌, ◌↔◌, true, List, length, slice_index}
 use Rattle.std.specs.List.{All, AllPairs}
 use Rattle.implicit_tiling.specs.Tile.{Tile, IsTile, branching, ancestor, child, index, tile_at, is_key_below}
 use Rattle.implicit_tiling.specs.Region.{Region, is_in}
 use Rattle.implicit_tiling.specs.Code.{word, word_level, word_mask, word_tile, IsWord}
 use Rattle.implicit_tiling.specs.Subtree.{Subtree, IsSubtree}
-use Rattle.implicit_tiling.specs.Nodes.{node_at, level_words, child_word, child_words}
+use Rattle.implicit_tiling.specs.Nodes.{node_at, level_words, child_words}
 use Rattle.region_scan.specs.Found.{first_index}
 
 -- the tile whose coordinates are a root's, and behind them those of a tile as it stands below level 0

@@ -9,7 +9,8 @@ use std::alloc::AllocError;
 use tile_coords::{Region, Word};
 
 /// Appends the words, with mask 0, of the child roots in the region whose child bit is 1 and whose parent is there, in
-/// key order (OGC 22-025r4, child subtree availability). Memory is the one error; it leaves `out` as it was.
+/// key order (OGC 22-025r4, child subtree availability). There are none at the levels in all, nor below the region's
+/// level. Memory is the one error; it leaves `out` as it was.
 pub fn child_roots(
     subtree: &Subtree,
     region: &Region,

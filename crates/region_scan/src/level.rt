@@ -1,5 +1,5 @@
 // The tiles of one local level.
-ghost use Rattle.std.specs.Prelude.{◌≡◌, ◌+◌, ◌++◌, ◌<◌, IfOk, IfErr, MatchResult, take, length, nat_lt};
+ghost use Rattle.std.specs.Prelude.{◌≡◌, ◌+◌, ◌++◌, ◌<◌, IfOk, IfErr, take, length, nat_lt};
 ghost use Rattle.implicit_tiling.specs.Nodes.{level_words};
 ghost use Rattle.region_scan.specs.Found.{Extends};
 
@@ -8,8 +8,9 @@ use availability::{Subtree, nodes_at};
 use std::alloc::AllocError;
 use tile_coords::{Region, Word};
 
-/// Appends the words of the first `limit` tiles of a local level that are in the region, in key order, and answers
-/// whether there are more (OGC 22-025r4, tile availability). Memory is the one error; it leaves `out` as it was.
+/// Appends the words of the first `limit` tiles of a local level, below the subtree's `levels`, that are in the region,
+/// in key order, and answers whether there are more (OGC 22-025r4, tile availability). Levels from the levels in all on
+/// have no tiles, and a region has none below its level. Memory is the one error; it leaves `out` as it was.
 pub fn level_tiles(
     subtree: &Subtree,
     local: u32,
