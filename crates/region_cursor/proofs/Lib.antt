@@ -5,3 +5,4 @@ pub mod Passing
 pub mod Walked
 pub mod Results
 pub mod Rows
+pub mod Callers

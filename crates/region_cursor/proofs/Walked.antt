@@ -39,10 +39,10 @@ use Rattle.walk_laws.proofs.WalkRoots.{child_words_are_root_words}
 use Rattle.walk_laws.proofs.Pairs.{fault_at_own_level, no_fault_below, no_fault_of_good}
 use Rattle.region_cursor.specs.declared.outcome.Outcome.{Outcome}
 use Rattle.region_cursor.specs.declared.outcome.Outcome.TheVariants.{Good, Bad}
-use Rattle.region_cursor.specs.Cursor.{Cursor, local_level_of, is_last_local, key_of, next_root, FitsSubtree, Fits, FitsLayout}
+use Rattle.region_cursor.specs.Cursor.{Cursor, IsWalkOf, local_level_of, is_last_local, key_of, next_root, FitsSubtree, Fits, FitsLayout}
 use Rattle.region_cursor.specs.Moves.{begun, over, passed, end_by_key, Made, went_on, children_if, with_children, counted, room, made_by, made_of, made_good, made_at, made_bad, made}
 use Rattle.region_cursor.specs.Outcomes.{outcome_seen}
-use Rattle.region_cursor.specs.Walked.{root_word, tile_word, pairs_done, found_below, IsWalkOf, GoesOn, IsAtBy, IsAt, GivesStep}
+use Rattle.region_cursor.specs.Walked.{root_word, tile_word, pairs_done, found_below, GoesOn, IsAtBy, IsAt, GivesStep}
 use Rattle.region_cursor.proofs.Places.{row, root_here, pair_here, rest_here, done_here, done_more, place_of_key, key_here, goes_on, IsStep, step_here, root_is_on_walk}
 use Rattle.region_cursor.proofs.Passing.{nothing_below, Counted, to_next}
 

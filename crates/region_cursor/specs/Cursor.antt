@@ -72,6 +72,16 @@ pub record IsRootKey (c : Cursor) (key : ℕ) : Type 0 where
   pub below : root_level_of c < c.levels
   pub at_start : root_level_of c % c.subtree_levels ≡ 0
 
+-- the state is one of a walk of the region over the layout, which is within the limits
+pub record IsWalkOf (layout : Layout) (region : Region) (c : Cursor) : Type 0 where
+  pub same_scheme : c.scheme ≡ layout.scheme
+  pub same_subtree_levels : c.subtree_levels ≡ layout.subtree_levels
+  pub same_levels : c.levels ≡ layout.levels
+  pub same_contents : c.contents ≡ length layout.contents
+  pub same_region : c.region ≡ region
+  pub some_levels : 1 ≤ layout.subtree_levels
+  pub few_levels : layout.levels ≤ most_levels layout.scheme
+
 -- the states are of one walk
 pub record IsSameWalk (old new : Cursor) : Type 0 where
   pub same_scheme : new.scheme ≡ old.scheme

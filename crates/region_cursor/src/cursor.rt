@@ -6,7 +6,7 @@ ghost use Rattle.implicit_tiling.specs.Subtree.{IsSubtree};
 ghost use Rattle.implicit_tiling.specs.Code.{IsWord};
 ghost use Rattle.implicit_tiling.specs.Answer.{most_tiles};
 ghost use Rattle.implicit_tiling.specs.Nodes.{child_words};
-ghost use Rattle.region_cursor.specs.Cursor.{local_level_of, is_last_local as is_last_local_of, key_of, next_root, Fits, FitsSubtree, FitsLayout, IsCursor, IsRootKey, IsTileWord, IsSameWalk};
+ghost use Rattle.region_cursor.specs.Cursor.{local_level_of, is_last_local as is_last_local_of, key_of, next_root, Fits, FitsSubtree, FitsLayout, IsCursor, IsRootKey, IsTileWord, IsWalkOf, IsSameWalk};
 ghost use Rattle.region_cursor.specs.Moves.{begun, over, next_level, level_after, passed, went_on, with_children, made, made_good, made_bad};
 ghost use Rattle.region_cursor.specs.Outcomes.{outcome_seen};
 ghost use Rattle.region_cursor.specs.Walked.{IsAt, IsNextKey, GivesStep, EndsAtWord};
@@ -55,6 +55,7 @@ impl CursorState {
     pub fn start(alloc: Global, layout: &Layout, plan: Plan) -> Result<CursorState, AllocError>
         requires { FitsLayout layout.now plan }
         ensures begun { IfOk result (λ c. c ≡ begun layout.now plan.region) }
+        ensures of_layout { IfOk result (IsWalkOf layout.now plan.region) }
         ensures scene { IfOk result (λ c. (s : Scene) → s.layout ≡ layout.now → IsAt s plan.region 0 c) }
     {
         let mut roots = Vec::new(alloc);
