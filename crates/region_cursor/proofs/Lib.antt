@@ -4,3 +4,5 @@ pub mod Places
 pub mod Passing
 pub mod Walked
 pub mod Results
+pub mod Rows
+pub mod Callers

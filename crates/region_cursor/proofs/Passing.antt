@@ -20,9 +20,9 @@ use Rattle.walk_laws.specs.Pairs.{level_pairs, pairs_above, NoPairFaults, tiles_
 use Rattle.walk_laws.proofs.Segments.{at_start, local_low}
 use Rattle.walk_laws.proofs.Children.{roots_go_down, next_level as next_start}
 use Rattle.walk_laws.proofs.Pairs.{pairs_go_down, pairs_above_come_first, pairs_end, roots_of_inner_levels}
-use Rattle.region_cursor.specs.Cursor.{Cursor, key_of, is_last_local}
+use Rattle.region_cursor.specs.Cursor.{Cursor, IsWalkOf, key_of, is_last_local}
 use Rattle.region_cursor.specs.Moves.{over, level_after, pair_after, passed, end_by_key}
-use Rattle.region_cursor.specs.Walked.{root_word, pairs_done, found_below, IsWalkOf, GoesOn, IsAtBy, IsAt}
+use Rattle.region_cursor.specs.Walked.{root_word, pairs_done, found_below, GoesOn, IsAtBy, IsAt}
 use Rattle.region_cursor.proofs.Places.{row, rest_here, later}
 
 -- nothing is below no roots
@@ -66,7 +66,7 @@ row_below s region l some last =
     ∙ roots_go_down s region (l - k) some start
     ∙ ap (flat_map (roots_below s region)) (sym (roots_of_inner_levels s region (l - k) k start low) ∙ ap (walk_roots s region) here)
 
-begins_below : (l n : ℕ) → 1 ≤ n → l % n + 1 ≡ n → (l + 1) % n ≡ 0
+pub begins_below : (l n : ℕ) → 1 ≤ n → l % n + 1 ≡ n → (l + 1) % n ≡ 0
 begins_below l n some last =
     let there : l - l % n + n ≡ l + 1 = omega (arith, local_low l n, last) in
     ap (λ m. m % n) (sym there) ∙ next_start (l - l % n) n some (at_start l n some)
@@ -137,7 +137,7 @@ to_next_root s region k c is more =
 -- what is known where the last root of a level is done
 record LevelDone (s : Scene) (region : Region) (k : ℕ) (c : Cursor) : Type 0 where
   pub some : 0 < length (row s region c)
-  pub of_scene : IsWalkOf s region c
+  pub of_scene : IsWalkOf s.layout region c
   pub within : c.level ≤ region.level
   pub rest : rest_here s region c ≡ later s region c.level
   pub done : pairs_done s region c.level (c.position + 1) ≡ pairs_above s region (c.level + 1)

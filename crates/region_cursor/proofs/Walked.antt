@@ -11,7 +11,7 @@ use Rattle.std.proofs.lemmas.Option.{get_or_from_slice_get}
 use Rattle.implicit_tiling.specs.declared.Scheme.{Scheme}
 use Rattle.implicit_tiling.specs.Limits.{most_levels}
 use Rattle.implicit_tiling.specs.Tile.{Tile, IsTile, root}
-use Rattle.implicit_tiling.specs.Region.{Region, is_in}
+use Rattle.implicit_tiling.specs.Region.{Region, Plan, is_in}
 use Rattle.implicit_tiling.specs.Scene.{Layout, Outcome as outcome, Scene, good, bad, fault_of}
 use Rattle.implicit_tiling.specs.Availability.{local_level, subtree_root, is_subtree_root, is_available, is_reached, child_bit, mask}
 use Rattle.implicit_tiling.specs.Answer.{most_tiles, too_many, fault}
@@ -34,15 +34,15 @@ use Rattle.walk_laws.proofs.Runs.{below, of_descendants}
 use Rattle.walk_laws.proofs.Segments.{local_low, below_root}
 use Rattle.walk_laws.proofs.Decoded.{node_words}
 use Rattle.walk_laws.proofs.Children.{no_root_below_a_fault}
-use Rattle.walk_laws.proofs.Regions.{roots_begin_at_the_root}
+use Rattle.walk_laws.proofs.Regions.{roots_begin_at_the_root, accepted_is_a_region}
 use Rattle.walk_laws.proofs.WalkRoots.{child_words_are_root_words}
 use Rattle.walk_laws.proofs.Pairs.{fault_at_own_level, no_fault_below, no_fault_of_good}
 use Rattle.region_cursor.specs.declared.outcome.Outcome.{Outcome}
 use Rattle.region_cursor.specs.declared.outcome.Outcome.TheVariants.{Good, Bad}
-use Rattle.region_cursor.specs.Cursor.{Cursor, local_level_of, is_last_local, key_of, next_root, FitsSubtree, Fits}
+use Rattle.region_cursor.specs.Cursor.{Cursor, IsWalkOf, local_level_of, is_last_local, key_of, next_root, FitsSubtree, Fits, FitsLayout}
 use Rattle.region_cursor.specs.Moves.{begun, over, passed, end_by_key, Made, went_on, children_if, with_children, counted, room, made_by, made_of, made_good, made_at, made_bad, made}
 use Rattle.region_cursor.specs.Outcomes.{outcome_seen}
-use Rattle.region_cursor.specs.Walked.{root_word, tile_word, pairs_done, found_below, IsWalkOf, GoesOn, IsAtBy, IsAt, GivesStep}
+use Rattle.region_cursor.specs.Walked.{root_word, tile_word, pairs_done, found_below, GoesOn, IsAtBy, IsAt, GivesStep}
 use Rattle.region_cursor.proofs.Places.{row, root_here, pair_here, rest_here, done_here, done_more, place_of_key, key_here, goes_on, IsStep, step_here, root_is_on_walk}
 use Rattle.region_cursor.proofs.Passing.{nothing_below, Counted, to_next}
 
@@ -370,9 +370,11 @@ makes_as_given s region k c o words end after words_are end_is after_is is some 
     (subst (λ w. GivesStep s region k w end) (sym words_are) (subst (λ e. GivesStep s region k (made c o).words e) (sym end_is) m.given),
     subst (λ a. IsAt s region (k + 1) a) (sym after_is) m.after)
 
-pub begins_as_given : (s : Scene) (layout : Layout) (region : Region) (c : Cursor) → c ≡ begun layout region → s.layout ≡ layout
-    → 1 ≤ layout.subtree_levels → 1 ≤ layout.levels → layout.levels ≤ most_levels layout.scheme → IsRegion region → IsAt s region 0 c
-begins_as_given s layout region c begin same some some_levels few_levels is =
+pub begins_as_given : (s : Scene) (layout : Layout) (plan : Plan) (c : Cursor) → c ≡ begun layout plan.region → s.layout ≡ layout
+    → 1 ≤ layout.subtree_levels → 1 ≤ layout.levels → layout.levels ≤ most_levels layout.scheme → FitsLayout layout plan → IsAt s plan.region 0 c
+begins_as_given s layout plan c begin same some some_levels few_levels fits =
+    let region = plan.region in
+    let is = (accepted_is_a_region layout.levels region.level region.lo region.hi region fits.accepted).0 in
     let own = begins s region (subst (λ (l : Layout). 1 ≤ l.subtree_levels) (sym same) some) (subst (λ (l : Layout). 1 ≤ l.levels) (sym same) some_levels)
     (subst (λ (l : Layout). l.levels ≤ most_levels l.scheme) (sym same) few_levels) is in
     subst (λ a. IsAt s region 0 a) (sym begin) (subst (λ l. IsAt s region 0 (begun l region)) same own)

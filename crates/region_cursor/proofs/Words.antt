@@ -1,68 +1,84 @@
 -- What a subtree gives a step are words.
-use Rattle.std.proofs.Common.{◌≡◌, ℕ, ◌+◌, ◌-◌, ◌*◌, ◌/◌, ◌^◌, ◌<◌, ◌≤◌, Bool, true, false, List, [], length, get_or, take, map, refl, ap, subst, arith}
+use Rattle.std.proofs.Common.{◌≡◌, ℕ, ◌+◌, ◌-◌, ◌*◌, ◌/◌, ◌^◌, ◌<◌, ◌≤◌, Bool, true, false, List, [], length, get_or, take, map, refl, sym, ap, subst, ◌∙◌, arith}
 use Rattle.std.specs.Prelude.{◌&&◌, nat_lt, filter}
 use Rattle.std.specs.List.{All}
 use Rattle.std.proofs.Math.Pow.{pow_mono}
 use Rattle.std.proofs.lemmas.Bool.{and_parts, ltb-true}
 use Rattle.std.proofs.lemmas.List.{length-map, length-take}
-use Rattle.std.proofs.lemmas.List.Elements.{All-map, All-take, All-same, filter_passes}
+use Rattle.std.proofs.lemmas.List.Elements.{All-map, All-take, All-same, All-weaker, filter_passes}
 use Rattle.implicit_tiling.specs.declared.Scheme.{Scheme}
-use Rattle.implicit_tiling.specs.Limits.{most_contents}
-use Rattle.implicit_tiling.specs.Tile.{branching, index}
+use Rattle.implicit_tiling.specs.Limits.{most_levels, most_contents}
+use Rattle.implicit_tiling.specs.Tile.{Tile, branching, index}
 use Rattle.implicit_tiling.specs.Region.{Region, is_in}
 use Rattle.implicit_tiling.specs.Availability.{nodes_above}
 use Rattle.implicit_tiling.specs.Subtree.{Subtree, IsSubtree, bit_at, node_bit, is_kept, has_tile, has_child, contents_mask}
 use Rattle.implicit_tiling.specs.Answer.{most_tiles}
-use Rattle.implicit_tiling.specs.Code.{IsWord}
+use Rattle.implicit_tiling.specs.Code.{word, IsWord}
 use Rattle.implicit_tiling.specs.Nodes.{node_at, indices, tiles_in, node_word, level_words, is_child_in, children_in, child_word, child_words}
 use Rattle.tiling_laws.proofs.TileAt.{tile_at_level}
 use Rattle.availability.proofs.Masks.{mask_below}
-use Rattle.availability.proofs.Tiles.{word_is_word}
+use Rattle.availability.proofs.Tiles.{word_is_word, mask_of_word, level_of_word}
 use Rattle.walk_laws.proofs.Decoded.{of_tiles_in}
-use Rattle.region_cursor.specs.Cursor.{Cursor, local_level_of, FitsSubtree}
+use Rattle.region_cursor.specs.Cursor.{Cursor, local_level_of, IsRootAt, IsTileWord, FitsSubtree}
 use Rattle.region_cursor.specs.Moves.{with_children, counted, room, made_by, made_good, made_at}
+
+mask_is_named : (st : Subtree) (l m : ℕ) → contents_mask st l m < 2 ^ length st.contents
+mask_is_named st l m =
+    let bits : List Bool = map (λ bits. node_bit st bits l m) st.contents in
+    mask_below bits (length st.contents) (length-map st.contents (λ bits. node_bit st bits l m))
 
 mask_is_short : (st : Subtree) (l m : ℕ) → IsSubtree st → contents_mask st l m < 2 ^ 8
 mask_is_short st l m is =
-    let bits : List Bool = map (λ bits. node_bit st bits l m) st.contents in
     let few : length st.contents ≤ 8 = is.few_contents in
-    let below = mask_below bits (length st.contents) (length-map st.contents (λ bits. node_bit st bits l m)) in
-    omega (arith, below, pow_mono {i = length st.contents} {j = 8} few)
+    omega (arith, mask_is_named st l m, pow_mono {i = length st.contents} {j = 8} few)
 
-pub level_words_are_words : (st : Subtree) (region : Region) (l : ℕ) → IsSubtree st → All (IsWord st.scheme) (level_words st region l)
+pub root_word_is_root : (scheme : Scheme) (t : Tile) (level : ℕ) → t.level ≡ level → t.level < most_levels scheme → IsRootAt scheme level (word scheme t 0)
+root_word_is_root scheme t level at low =
+    let short : 0 < 2 ^ 8 = omega arith in
+    record { is_word = word_is_word scheme t 0 low short; no_contents = mask_of_word scheme t 0 low short; at_level = level_of_word scheme t 0 low short ∙ at }
+
+pub level_words_are_words : (st : Subtree) (region : Region) (l : ℕ) → IsSubtree st → All (IsTileWord st.scheme (length st.contents)) (level_words st region l)
 level_words_are_words st region l is =
-    All-map (IsWord st.scheme) (node_word st l) (tiles_in st region l)
-    (of_tiles_in (λ m. IsWord st.scheme (node_word st l m)) st region l
+    All-map (IsTileWord st.scheme (length st.contents)) (node_word st l) (tiles_in st region l)
+    (of_tiles_in (λ m. IsTileWord st.scheme (length st.contents) (node_word st l m)) st region l
     (λ m h there within. let kept = ltb-true (st.root.level + l) st.cut (and_parts (is_kept st l) (bit_at st.tiles (nodes_above st.scheme l + m)) there).0 in
     let level = tile_at_level st.scheme (st.root.level + l) (index st.scheme st.root * branching st.scheme ^ l + m) in
-    word_is_word st.scheme (node_at st l m) (contents_mask st l m) (omega (arith, kept, level, is.few_levels_in_all)) (mask_is_short st l m is)))
+    let low : (node_at st l m).level < most_levels st.scheme = omega (arith, kept, level, is.few_levels_in_all) in
+    let byte = mask_is_short st l m is in
+    record {
+      is_word = word_is_word st.scheme (node_at st l m) (contents_mask st l m) low byte;
+      of_contents = let P : ℕ → Type 0 = λ n. n < 2 ^ length st.contents in subst P (sym (mask_of_word st.scheme (node_at st l m) (contents_mask st l m) low byte)) (mask_is_named st l m);
+    }))
 
-pub child_words_are_words : (st : Subtree) (region : Region) → IsSubtree st → All (IsWord st.scheme) (child_words st region)
+pub child_words_are_words : (st : Subtree) (region : Region) → IsSubtree st → All (IsRootAt st.scheme (st.root.level + st.levels)) (child_words st region)
 child_words_are_words st region is =
     let passes = filter_passes (is_child_in st region) (indices st st.levels) in
-    All-map (IsWord st.scheme) (child_word st) (children_in st region)
+    All-map (IsRootAt st.scheme (st.root.level + st.levels)) (child_word st) (children_in st region)
     (λ k d below. let m = get_or (children_in st region) k d in
     let above = has_tile st (st.levels - 1) (m / branching st.scheme) in
     let bits = and_parts (has_child st m && above) (is_in region (node_at st st.levels m)) (passes k d below) in
     let own = and_parts (has_child st m) above bits.0 in
     let kept = ltb-true (st.root.level + st.levels) st.cut (and_parts (is_kept st st.levels) (bit_at st.child m) own.0).0 in
     let level = tile_at_level st.scheme (st.root.level + st.levels) (index st.scheme st.root * branching st.scheme ^ st.levels + m) in
-    let short : 0 < 2 ^ 8 = omega arith in
-    word_is_word st.scheme (node_at st st.levels m) 0 (omega (arith, kept, level, is.few_levels_in_all)) short)
+    root_word_is_root st.scheme (node_at st st.levels m) (st.root.level + st.levels) level (omega (arith, kept, level, is.few_levels_in_all)))
 
 -- the words of a step, and how many tiles were given then
 made_by_words : (more : Bool) (words : List ℕ) (c : Cursor) → (made_by more words c).words ≡ words
 made_by_words true words c = refl
 made_by_words false words c = refl
 
-pub words_of_step : (c : Cursor) (st : Subtree) → FitsSubtree c st → IsSubtree st → All (IsWord c.scheme) (made_good c st).words
+more_contents : (scheme : Scheme) (few many : ℕ) → few ≤ many → (w : ℕ) → IsTileWord scheme few w → IsTileWord scheme many w
+more_contents scheme few many le w is = record { is_word = is.is_word; of_contents = omega (arith, is.of_contents, pow_mono {i = few} {j = many} le) }
+
+pub words_of_step : (c : Cursor) (st : Subtree) → FitsSubtree c st → IsSubtree st → All (IsTileWord c.scheme c.contents) (made_good c st).words
 words_of_step c st fits is =
     let found = level_words st c.region (local_level_of c) in
     let more = nat_lt (room c) (length found) in
     let words = take (room c) found in
-    let own = All-take (IsWord st.scheme) (room c) found (level_words_are_words st c.region (local_level_of c) is) in
-    let named = subst (λ (e : Scheme). All (IsWord e) words) fits.same_scheme own in
-    All-same (IsWord c.scheme) (made_good c st).words words (made_by_words more words (counted words (with_children more c (child_words st c.region)))) named
+    let own = All-take (IsTileWord st.scheme (length st.contents)) (room c) found (level_words_are_words st c.region (local_level_of c) is) in
+    let named = subst (λ (e : Scheme). All (IsTileWord e (length st.contents)) words) fits.same_scheme own in
+    let few = All-weaker (IsTileWord c.scheme (length st.contents)) (IsTileWord c.scheme c.contents) (more_contents c.scheme (length st.contents) c.contents fits.contents_named) words named in
+    All-same (IsTileWord c.scheme c.contents) (made_good c st).words words (made_by_words more words (counted words (with_children more c (child_words st c.region)))) few
 
 pub few_of_step : (c : Cursor) (st : Subtree) → c.count ≤ most_tiles → c.count + length (made_good c st).words ≤ most_tiles
 few_of_step c st few =

@@ -1,15 +1,14 @@
 -- The state of a paused walk (this project's own).
-use Rattle.std.specs.Prelude.{ℕ, ◌≡◌, ◌+◌, ◌%◌, ◌<◌, ◌≤◌, ◌==◌, Bool, false, List, length, Option, Some, slice_get, slice_index}
+use Rattle.std.specs.Prelude.{ℕ, ◌≡◌, ◌+◌, ◌-◌, ◌%◌, ◌^◌, ◌<◌, ◌≤◌, ◌==◌, Bool, false, List, length, Option, Some, Ok, slice_get, slice_index}
 use Rattle.std.specs.List.{All}
 use Rattle.implicit_tiling.specs.declared.Scheme.{Scheme}
 use Rattle.implicit_tiling.specs.Limits.{most_levels, most_contents}
-use Rattle.implicit_tiling.specs.Tile.{Tile}
-use Rattle.implicit_tiling.specs.Region.{Region, Plan}
+use Rattle.implicit_tiling.specs.Tile.{Tile, depth_of}
+use Rattle.implicit_tiling.specs.Region.{Region, Plan, region_of}
 use Rattle.implicit_tiling.specs.Scene.{Layout}
 use Rattle.implicit_tiling.specs.Subtree.{Subtree, has_orphan}
 use Rattle.implicit_tiling.specs.Answer.{most_tiles}
-use Rattle.implicit_tiling.specs.Code.{word, word_tile, IsWord}
-use Rattle.walk_laws.specs.Regions.{IsRegion}
+use Rattle.implicit_tiling.specs.Code.{word, word_tile, word_level, word_mask, IsWord}
 use Rattle.region_cursor.specs.declared.outcome.Outcome.{Outcome}
 use Rattle.region_cursor.specs.declared.outcome.Outcome.TheVariants.{Good, Bad}
 
@@ -28,22 +27,37 @@ pub record Cursor : Type 0 where
   pub next_roots : List ℕ
   pub count : ℕ
 
--- the limits of each state
-pub record IsCursor (c : Cursor) : Type 0 where
-  pub some_levels : 1 ≤ c.subtree_levels
-  pub few_levels : c.levels ≤ most_levels c.scheme
-  pub few_contents : c.contents ≤ most_contents
-  pub within : c.level ≤ c.region.level
-  pub few : c.count ≤ most_tiles
-  pub words : All (IsWord c.scheme) c.roots
-  pub next_words : All (IsWord c.scheme) c.next_roots
-
--- the local level of the next step, and whether it is the last one of the subtrees
+-- the local level of the next step, whether it is the last one of the subtrees, and the level of their roots
 abbrev pub local_level_of : Cursor → ℕ
 local_level_of c = c.level % c.subtree_levels
 
 abbrev pub is_last_local : Cursor → Bool
 is_last_local c = local_level_of c + 1 == c.subtree_levels
+
+abbrev pub root_level_of : Cursor → ℕ
+root_level_of c = c.level - local_level_of c
+
+-- the word of a tile of a level, with mask 0
+pub record IsRootAt (scheme : Scheme) (level w : ℕ) : Type 0 where
+  pub is_word : IsWord scheme w
+  pub no_contents : word_mask w ≡ 0
+  pub at_level : word_level w ≡ level
+
+-- the word of a tile, with a mask of so many contents
+pub record IsTileWord (scheme : Scheme) (contents w : ℕ) : Type 0 where
+  pub is_word : IsWord scheme w
+  pub of_contents : word_mask w < 2 ^ contents
+
+-- the limits of each state, and what its words are
+pub record IsCursor (c : Cursor) : Type 0 where
+  pub some_levels : 1 ≤ c.subtree_levels
+  pub few_levels : c.levels ≤ most_levels c.scheme
+  pub few_contents : c.contents ≤ most_contents
+  pub low : c.region.level < c.levels
+  pub within : c.level ≤ c.region.level
+  pub few : c.count ≤ most_tiles
+  pub are_roots : All (IsRootAt c.scheme (root_level_of c)) c.roots
+  pub are_next_roots : All (IsRootAt c.scheme (root_level_of c + c.subtree_levels)) c.next_roots
 
 -- the word of the root that the next step reads, if the walk goes on, and its tile
 abbrev pub key_of : Cursor → Option ℕ
@@ -52,11 +66,36 @@ key_of c = slice_get c.roots c.position
 abbrev pub next_root : Cursor → Tile
 next_root c = word_tile c.scheme (slice_index c.roots c.position)
 
--- the plan is one of the layout's
-pub record IsPlanOf (layout : Layout) (plan : Plan) : Type 0 where
+-- it is the word, with mask 0, of a tile below the levels in all that a subtree may begin with
+pub record IsRootKey (c : Cursor) (key : ℕ) : Type 0 where
+  pub root : IsRootAt c.scheme (root_level_of c) key
+  pub below : root_level_of c < c.levels
+  pub at_start : root_level_of c % c.subtree_levels ≡ 0
+
+-- the state is one of a walk of the region over the layout, which is within the limits
+pub record IsWalkOf (layout : Layout) (region : Region) (c : Cursor) : Type 0 where
+  pub same_scheme : c.scheme ≡ layout.scheme
+  pub same_subtree_levels : c.subtree_levels ≡ layout.subtree_levels
+  pub same_levels : c.levels ≡ layout.levels
+  pub same_contents : c.contents ≡ length layout.contents
+  pub same_region : c.region ≡ region
+  pub some_levels : 1 ≤ layout.subtree_levels
+  pub few_levels : layout.levels ≤ most_levels layout.scheme
+
+-- the states are of one walk
+pub record IsSameWalk (old new : Cursor) : Type 0 where
+  pub same_scheme : new.scheme ≡ old.scheme
+  pub same_subtree_levels : new.subtree_levels ≡ old.subtree_levels
+  pub same_levels : new.levels ≡ old.levels
+  pub same_contents : new.contents ≡ old.contents
+  pub same_region : new.region ≡ old.region
+
+-- the plan is one of the layout's: the scheme is the layout's, in a quadtree the third places are 0, and the region is accepted
+pub record FitsLayout (layout : Layout) (plan : Plan) : Type 0 where
   pub same_scheme : plan.scheme ≡ layout.scheme
-  pub is_region : IsRegion plan.region
-  pub low : plan.region.level < layout.levels
+  pub flat_lo : slice_index plan.region.lo 2 ≡ depth_of layout.scheme (slice_index plan.region.lo 2)
+  pub flat_hi : slice_index plan.region.hi 2 ≡ depth_of layout.scheme (slice_index plan.region.hi 2)
+  pub accepted : region_of layout.levels plan.region.level plan.region.lo plan.region.hi ≡ Ok plan.region
 
 -- the subtree is one of the layout and of the root that the next step reads, and no node is an orphan
 pub record FitsSubtree (c : Cursor) (st : Subtree) : Type 0 where

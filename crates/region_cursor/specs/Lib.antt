@@ -2,3 +2,4 @@ pub mod Outcomes
 pub mod Cursor
 pub mod Moves
 pub mod Walked
+pub mod Laws

@@ -2,7 +2,6 @@
 use Rattle.std.specs.Prelude.{ℕ, ◌≡◌, ◌+◌, ◌<◌, ◌≤◌, ◌++◌, Bool, true, false, List, [], length, take, map, Option, Some, None, slice_get, IsSomeAnd}
 use Rattle.std.specs.List.{flat_map}
 use Rattle.implicit_tiling.specs.declared.Scheme.{Scheme}
-use Rattle.implicit_tiling.specs.Limits.{most_levels}
 use Rattle.implicit_tiling.specs.Tile.{Tile}
 use Rattle.implicit_tiling.specs.Region.{Region}
 use Rattle.implicit_tiling.specs.Scene.{Scene}
@@ -13,10 +12,9 @@ use Rattle.implicit_tiling.specs.Steps.{Pair, pair_of, walk_roots, pairs, steps}
 use Rattle.tile_coords.specs.Ends.{end_seen}
 use Rattle.tile_coords.specs.declared.walk_end.WalkEnd.{WalkEnd}
 use Rattle.tile_coords.specs.declared.walk_end.WalkEnd.TheVariants.{Partial, Complete, TooMany, Fault}
-use Rattle.walk_laws.specs.Regions.{IsRegion}
 use Rattle.walk_laws.specs.Children.{roots_below}
 use Rattle.walk_laws.specs.Pairs.{pairs_above, NoPairFaults, tiles_of_pairs}
-use Rattle.region_cursor.specs.Cursor.{Cursor, is_last_local, key_of}
+use Rattle.region_cursor.specs.Cursor.{Cursor, IsWalkOf, is_last_local, key_of}
 
 -- the words of roots, with mask 0, and of tiles with their contents
 abbrev pub root_word : Scene → Tile → ℕ
@@ -24,16 +22,6 @@ root_word s r = word s.layout.scheme r 0
 
 abbrev pub tile_word : Scene → Tile → ℕ
 tile_word s t = word s.layout.scheme t (mask s t)
-
--- the state is one of a walk over the scene, whose layout is within the limits
-pub record IsWalkOf (s : Scene) (region : Region) (c : Cursor) : Type 0 where
-  pub same_scheme : c.scheme ≡ s.layout.scheme
-  pub same_subtree_levels : c.subtree_levels ≡ s.layout.subtree_levels
-  pub same_levels : c.levels ≡ s.layout.levels
-  pub same_contents : c.contents ≡ length s.layout.contents
-  pub same_region : c.region ≡ region
-  pub some_levels : 1 ≤ s.layout.subtree_levels
-  pub few_levels : s.layout.levels ≤ most_levels s.layout.scheme
 
 -- the pairs above a level, and those of the first roots of that level
 abbrev pub pairs_done : Scene → Region → ℕ → ℕ → List Pair
@@ -47,7 +35,7 @@ found_below false s region roots = []
 -- A walk that goes on after k steps: k pairs are done and tell no fault; the roots are those of the level, in key order;
 -- the next ones are those below the roots that are done; and the tiles of the pairs were given.
 pub record GoesOn (s : Scene) (region : Region) (k : ℕ) (c : Cursor) : Type 0 where
-  pub of_scene : IsWalkOf s region c
+  pub of_scene : IsWalkOf s.layout region c
   pub within : c.level ≤ region.level
   pub done : k ≡ length (pairs_done s region c.level c.position)
   pub no_fault : NoPairFaults s (pairs_done s region c.level c.position)

@@ -1,13 +1,13 @@
 // The state of a paused walk, and its step.
-ghost use Rattle.std.specs.Prelude.{ℕ, ◌≡◌, ◌+◌, ◌-◌, ◌<◌, ◌≤◌, ◌++◌, ◌==◌, [], nat_lt, length, take, drop, IfOk, IfErr, IfSome, IsSome, Option, option_map};
+ghost use Rattle.std.specs.Prelude.{ℕ, false, true, ◌≡◌, ◌+◌, ◌-◌, ◌<◌, ◌≤◌, ◌++◌, ◌==◌, [], nat_lt, length, take, drop, IfOk, IfErr, IfSome, IsSome, Option, option_map};
 ghost use Rattle.std.specs.List.{All};
 ghost use Rattle.implicit_tiling.specs.Scene.{Scene};
 ghost use Rattle.implicit_tiling.specs.Subtree.{IsSubtree};
 ghost use Rattle.implicit_tiling.specs.Code.{IsWord};
 ghost use Rattle.implicit_tiling.specs.Answer.{most_tiles};
 ghost use Rattle.implicit_tiling.specs.Nodes.{child_words};
-ghost use Rattle.region_cursor.specs.Cursor.{local_level_of, is_last_local as is_last_local_of, key_of, next_root, Fits, FitsSubtree, IsPlanOf};
-ghost use Rattle.region_cursor.specs.Moves.{begun, over, next_level, passed, went_on, with_children, made, made_good, made_bad};
+ghost use Rattle.region_cursor.specs.Cursor.{local_level_of, is_last_local as is_last_local_of, key_of, next_root, Fits, FitsSubtree, FitsLayout, IsCursor, IsRootKey, IsTileWord, IsWalkOf, IsSameWalk};
+ghost use Rattle.region_cursor.specs.Moves.{begun, over, next_level, level_after, passed, went_on, with_children, made, made_good, made_bad};
 ghost use Rattle.region_cursor.specs.Outcomes.{outcome_seen};
 ghost use Rattle.region_cursor.specs.Walked.{IsAt, IsNextKey, GivesStep, EndsAtWord};
 
@@ -53,8 +53,9 @@ impl Model for CursorState {
 impl CursorState {
     /// A walk of which no step is made yet. Memory is the one error.
     pub fn start(alloc: Global, layout: &Layout, plan: Plan) -> Result<CursorState, AllocError>
-        requires { IsPlanOf layout.now plan }
+        requires { FitsLayout layout.now plan }
         ensures begun { IfOk result (λ c. c ≡ begun layout.now plan.region) }
+        ensures of_layout { IfOk result (IsWalkOf layout.now plan.region) }
         ensures scene { IfOk result (λ c. (s : Scene) → s.layout ≡ layout.now → IsAt s plan.region 0 c) }
     {
         let mut roots = Vec::new(alloc);
@@ -76,7 +77,7 @@ impl CursorState {
     /// The word, with mask 0, of the subtree root that the next step reads. None exactly where the walk has ended.
     pub fn next_key(&self) -> Option<Word>
         ensures key { result ≡ key_of self.now }
-        ensures word { IfSome result (IsWord self.now.scheme) }
+        ensures root { IfSome result (IsRootKey self.now) }
         ensures scene { (s : Scene) (k : ℕ) → IsAt s self.now.region k self.now → IsNextKey s self.now.region k result }
     {
         self.key()
@@ -93,8 +94,9 @@ impl CursorState {
         ensures after { IfOk result (λ end. self.new ≡ (made self.old outcome.now).after) }
 
         ensures few { IfOk result (λ end. self.old.count + length words.new.items ≤ most_tiles) }
-        ensures are_words { IfOk result (λ end. All (IsWord self.old.scheme) words.new.items) }
+        ensures are_words { IfOk result (λ end. All (IsTileWord self.old.scheme self.old.contents) words.new.items) }
         ensures root { IfOk result (EndsAtWord self.old.scheme) }
+        ensures same { IfOk result (λ end. IsSameWalk self.old self.new) }
 
         ensures unchanged { IfErr result (λ e. self.new ≡ self.old) }
         ensures same_words { IfErr result (λ e. words.new.items ≡ words.old.items) }
@@ -155,7 +157,7 @@ impl CursorState {
 
     fn key(&self) -> Option<Word>
         ensures key { result ≡ key_of self.now }
-        ensures word { IfSome result (IsWord self.now.scheme) }
+        ensures limits { IsCursor self.now }
     {
         self.roots.get(self.position).copied()
     }
@@ -171,6 +173,12 @@ impl CursorState {
         ensures { result ≡ is_last_local_of self.now }
     {
         self.level % self.subtree_levels + 1 == self.subtree_levels
+    }
+
+    fn is_last_level(&self) -> bool
+        ensures { result ≡ (self.now.level == self.now.region.level) }
+    {
+        self.level == self.region.level
     }
 
     // At the last local level the roots below the subtree are found, once for each subtree.
@@ -214,14 +222,26 @@ impl CursorState {
     fn go_down(&mut self)
         ensures { self.new ≡ next_level self.old }
     {
-        if self.level == self.region.level {
+        if self.is_last_level() {
             self.finish();
             return;
         }
         if self.is_last_local() {
-            swap(&mut self.roots, &mut self.next_roots);
-            self.next_roots.clear();
+            self.go_below();
+            return;
         }
+        self.level += 1;
+        self.position = 0;
+    }
+
+    // To the subtrees below: their roots are those that were found.
+    fn go_below(&mut self)
+        requires last { is_last_local_of self.old ≡ true }
+        requires level { self.old.level < self.old.region.level }
+        ensures { self.new ≡ level_after false true self.old }
+    {
+        swap(&mut self.roots, &mut self.next_roots);
+        self.next_roots.clear();
         self.level += 1;
         self.position = 0;
     }

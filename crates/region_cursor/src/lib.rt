@@ -4,6 +4,7 @@
 #![tactic(auto)]
 
 mod cursor;
+pub mod cursor_laws;
 mod outcome;
 
 pub use cursor::CursorState;

@@ -11,4 +11,4 @@ returns-clause-begun c = grind (arith, common_steps)
 pub returns-clause-scene : goal.returns-clause-scene
 returns-clause-scene c = λ s same.
     let limits = subst IsWithinLimits c.layout.view_is c.layout.invariant in
-    begins_as_given s c.args.layout.now c.args.plan.region _ (returns-clause-begun c) same limits.some_subtree_levels limits.some_levels limits.few_levels c.requires.is_region
+    begins_as_given s c.args.layout.now c.args.plan _ (returns-clause-begun c) same limits.some_subtree_levels limits.some_levels limits.few_levels c.requires

@@ -5,11 +5,10 @@ use Rattle.std.proofs.lemmas.List.Elements.{All-same}
 use Rattle.std.proofs.lemmas.Result.{IfOk-weaker}
 use Rattle.implicit_tiling.specs.Scene.{Scene}
 use Rattle.implicit_tiling.specs.Answer.{most_tiles}
-use Rattle.implicit_tiling.specs.Code.{IsWord}
 use Rattle.tile_coords.specs.declared.walk_end.WalkEnd.{WalkEnd}
 use Rattle.region_cursor.specs.declared.outcome.Outcome.{Outcome}
 use Rattle.region_cursor.specs.declared.outcome.Outcome.TheVariants.{Good, Bad}
-use Rattle.region_cursor.specs.Cursor.{local_level_of, next_root, Fits}
+use Rattle.region_cursor.specs.Cursor.{local_level_of, next_root, IsTileWord, Fits}
 use Rattle.region_cursor.specs.Moves.{made_good, made_bad}
 use Rattle.region_cursor.specs.Outcomes.{outcome_seen}
 use Rattle.region_cursor.specs.Walked.{IsAt, GivesStep}
@@ -23,8 +22,8 @@ returns-in-Good-clause-are_words c =
     let self = c.args.self.now in
     let st = c.in-Good.subtree in
     let fits = subst (Fits self) c.in-Good.is c.requires.fits in
-    IfOk-weaker c.step_good.result (λ end. c.step_good.new.words.items ≡ (made_good self st).words) (λ end. All (IsWord self.scheme) c.step_good.new.words.items)
-    (λ end words. All-same (IsWord self.scheme) c.step_good.new.words.items (made_good self st).words words (words_of_step self st fits c.step_good.ensures.limits)) c.step_good.ensures.words
+    IfOk-weaker c.step_good.result (λ end. c.step_good.new.words.items ≡ (made_good self st).words) (λ end. All (IsTileWord self.scheme self.contents) c.step_good.new.words.items)
+    (λ end words. All-same (IsTileWord self.scheme self.contents) c.step_good.new.words.items (made_good self st).words words (words_of_step self st fits c.step_good.ensures.limits)) c.step_good.ensures.words
 
 pub returns-in-Good-clause-scene : goal.returns-in-Good-clause-scene
 returns-in-Good-clause-scene c =

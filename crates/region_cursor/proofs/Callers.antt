@@ -1,0 +1,45 @@
+-- What a caller has to know of a walk and of the subtrees that it reads.
+use Rattle.std.proofs.Common.{◌≡◌, ℕ, ◌%◌, ◌<◌, ◌≤◌, false, Option, Some, length, sym, ap, subst, ◌∙◌, arith}
+use Rattle.std.proofs.lemmas.Option.{get_or_from_slice_get}
+use Rattle.implicit_tiling.specs.declared.Scheme.{Scheme}
+use Rattle.implicit_tiling.specs.Tile.{Tile}
+use Rattle.implicit_tiling.specs.Region.{Region}
+use Rattle.implicit_tiling.specs.Scene.{Layout}
+use Rattle.implicit_tiling.specs.Subtree.{Subtree, IsOf, has_orphan}
+use Rattle.implicit_tiling.specs.Code.{word, word_tile, word_mask}
+use Rattle.availability.proofs.Tiles.{parts_have_their_word}
+use Rattle.region_cursor.specs.Cursor.{Cursor, IsWalkOf, IsSameWalk, IsRootKey, FitsSubtree, key_of, next_root}
+
+-- a walk stays one of its layout
+pub walk_stays : (layout : Layout) (region : Region) (old new : Cursor) → IsWalkOf layout region old → IsSameWalk old new → IsWalkOf layout region new
+walk_stays layout region old new is same = record {
+  same_scheme = same.same_scheme ∙ is.same_scheme;
+  same_subtree_levels = same.same_subtree_levels ∙ is.same_subtree_levels;
+  same_levels = same.same_levels ∙ is.same_levels;
+  same_contents = same.same_contents ∙ is.same_contents;
+  same_region = same.same_region ∙ is.same_region;
+  some_levels = is.some_levels;
+  few_levels = is.few_levels;
+}
+
+-- the tile of the next key is the next root
+pub next_root_of_key : (c : Cursor) (key : ℕ) → key_of c ≡ Some key → next_root c ≡ word_tile c.scheme key
+next_root_of_key c key at = ap (word_tile c.scheme) (get_or_from_slice_get c.roots c.position key 0 at)
+
+-- a subtree of the layout without an orphan that begins with the next root fits the step
+pub subtree_fits : (layout : Layout) (region : Region) (c : Cursor) (key : ℕ) (st : Subtree) → IsWalkOf layout region c → key_of c ≡ Some key → IsRootKey c key
+    → IsOf layout st → has_orphan st ≡ false → st.root ≡ word_tile c.scheme key → FitsSubtree c st
+subtree_fits layout region c key st is at root of no_orphan begins =
+    let scheme = of.same_scheme ∙ sym is.same_scheme in
+    let parts = (parts_have_their_word c.scheme key root.root.is_word).word in
+    record {
+      same_scheme = scheme;
+      same_levels = of.same_levels ∙ sym is.same_subtree_levels;
+      same_cut = of.same_cut ∙ sym is.same_levels;
+      contents_named = omega (arith, of.contents_named, is.same_contents);
+      root_at_start = ap (λ n. st.root.level % n) is.same_subtree_levels ∙ of.root_at_start;
+      no_orphan = no_orphan;
+      key = at ∙ ap {B = Option ℕ} (λ w. Some w) (sym
+          (ap (λ (e : Scheme). word e st.root 0) scheme ∙ ap (λ (t : Tile). word c.scheme t 0) begins
+          ∙ ap (word c.scheme (word_tile c.scheme key)) (sym root.root.no_contents) ∙ parts));
+    }

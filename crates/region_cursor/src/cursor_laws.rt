@@ -1,0 +1,17 @@
+// Laws for callers that read the files of a layout (this project's own).
+ghost use Rattle.region_cursor.specs.Laws.{WalksStay, NextRootIsOfTheKey, SubtreesFit};
+
+/// A walk stays one of its layout and region.
+pub fn a_walk_stays_of_its_layout()
+    ensures { WalksStay }
+{}
+
+/// The root of the next step is the tile of the next key.
+pub fn the_next_root_is_of_the_key()
+    ensures { NextRootIsOfTheKey }
+{}
+
+/// A subtree of the layout without an orphan that begins with the tile of the next key fits the next step.
+pub fn a_subtree_of_the_key_fits()
+    ensures { SubtreesFit }
+{}
