@@ -1,4 +1,5 @@
--- What a list of files holds, and the text of a request line over it.
+-- What a list of files holds, and the text of a request line over it (OGC 22-025r4, implicit tiling: subtrees; lines and
+-- texts are this project's own).
 use Rattle.std.specs.Prelude.{ℕ, List, Option, codes, Result}
 use Rattle.implicit_tiling.specs.Files.{Files, file}
 use Rattle.implicit_tiling.specs.Template.{filled}
@@ -9,7 +10,6 @@ use Rattle.implicit_tiling.specs.Request.{Line, plan_of_line}
 use Rattle.implicit_tiling.specs.Text.{text_of}
 use Rattle.implicit_tileset.specs.Tileset.{layout_of}
 use Rattle.implicit_tileset.specs.SubtreeFile.{outcome_in}
-use Rattle.implicit_tileset.specs.Constants.{outcome_of}
 
 -- the name of a subtree root's file
 abbrev pub subtree_name : Layout → Tile → List ℕ
@@ -18,10 +18,6 @@ subtree_name layout r = filled layout.scheme layout.subtree r
 abbrev pub scene_of : Files → Layout → Scene
 scene_of files layout = record { layout = layout; outcome = λ r. outcome_in layout r (file (subtree_name layout r) files) }
 
--- so far of files of constants alone
-abbrev pub plain_scene_of : Files → Layout → Scene
-plain_scene_of files layout = record { layout = layout; outcome = λ r. outcome_of layout r (file (subtree_name layout r) files) }
-
 -- the layout of the files, or the first fault of `tileset.json`
 abbrev pub layout_in : Files → Result Layout ℕ
 layout_in files = need 1 (file (codes "tileset.json") files) layout_of
@@ -29,6 +25,3 @@ layout_in files = need 1 (file (codes "tileset.json") files) layout_of
 -- the text of a line over the files of a layout
 abbrev pub line_text : Files → Layout → Option Line → List ℕ
 line_text files layout line = text_of (scene_of files layout) (plan_of_line layout.scheme layout.levels line)
-
-abbrev pub plain_line_text : Files → Layout → Option Line → List ℕ
-plain_line_text files layout line = text_of (plain_scene_of files layout) (plan_of_line layout.scheme layout.levels line)

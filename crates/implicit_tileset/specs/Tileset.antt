@@ -1,5 +1,5 @@
 -- The layout that the bytes of `tileset.json` state, or the number of their first fault of 3 to 12.
-use Rattle.std.specs.Prelude.{ℕ, ◌&&◌, nat_lt, nat_le, Bool, true, false, List, [], ◌∷◌, length, codes, Option, Some, None, option_and_then, option_map, Result, Ok, if◌then◌else◌}
+use Rattle.std.specs.Prelude.{ℕ, ◌&&◌, nat_lt, nat_le, List, [], ◌∷◌, length, codes, Option, Some, None, option_and_then, option_map, Result, Ok, if◌then◌else◌}
 use Rattle.std.specs.Str.{bytes_eq}
 use Rattle.serde_json.specs.Data.{Data}
 use Rattle.serde_json.specs.Find.{get, as_array}
@@ -52,11 +52,3 @@ layout_of_value value =
 
 abbrev pub layout_of : List ℕ → Result Layout ℕ
 layout_of bytes = need 3 (json_of bytes) layout_of_value
-
--- a quadtree of at most 8 levels in one subtree, with at most one content
-abbrev pub is_quad : Scheme → Bool
-is_quad Quad = true
-is_quad Oct = false
-
-abbrev pub is_plain : Layout → Bool
-is_plain layout = is_quad layout.scheme && nat_le layout.levels 8 && nat_le layout.levels layout.subtree_levels && nat_le (length layout.contents) 1

@@ -1,9 +1,9 @@
 // The two parts of a subtree file.
-ghost use Rattle.std.specs.Prelude.{◌≡◌};
+ghost use Rattle.std.specs.Prelude.{◌≡◌, ◌+◌, ◌≤◌, length, take, drop, codes};
+ghost use Rattle.std.specs.Str.{bytes_eq};
+ghost use Rattle.std.specs.Int.{w32, w64, from_le_bytes};
 ghost use Rattle.implicit_tileset.specs.SubtreeFile.{parts_of};
 ghost use Rattle.subtree_file.specs.Parts.{ReadsParts, parts_fault_number};
-
-use crate::{has_magic, u32_at, u64_at};
 
 const HEADER_BYTES: usize = 24;
 
@@ -68,4 +68,34 @@ pub fn read_parts<'b>(bytes: &'b [u8]) -> Result<Parts<'b>, PartsFault>
         json: &bytes[HEADER_BYTES..json_end],
         binary: &bytes[json_end..binary_end],
     })
+}
+
+fn has_magic(bytes: &[u8]) -> bool
+    requires { 24 ≤ length bytes.now }
+    ensures { result ≡ bytes_eq (take 4 bytes.now) (codes "subt") }
+{
+    &bytes[..4] == b"subt".as_slice()
+}
+
+fn u32_at(bytes: &[u8], at: usize) -> u32
+    requires { at + 4 ≤ length bytes.now }
+    ensures { result ≡ from_le_bytes w32 (drop at bytes.now) }
+{
+    u32::from_le_bytes([bytes[at], bytes[at + 1], bytes[at + 2], bytes[at + 3]])
+}
+
+fn u64_at(bytes: &[u8], at: usize) -> u64
+    requires { at + 8 ≤ length bytes.now }
+    ensures { result ≡ from_le_bytes w64 (drop at bytes.now) }
+{
+    u64::from_le_bytes([
+        bytes[at],
+        bytes[at + 1],
+        bytes[at + 2],
+        bytes[at + 3],
+        bytes[at + 4],
+        bytes[at + 5],
+        bytes[at + 6],
+        bytes[at + 7],
+    ])
 }
