@@ -1,59 +1,54 @@
-// The program `view`: `tiles` over the current folder.
+//! The program `view`: a command over the current folder, standard input and standard output.
 #![tactic(auto)]
 
-ghost use Rattle.std.specs.Prelude.{None};
-
-use scene_ports::{FileKeeper, Folder, Put, ReadInlet, WriteOutlet};
+use commands::{Status, plain};
+use scene_ports::{Folder, ReadInlet, WriteOutlet};
+use std::alloc::AllocError;
+use std::io::ErrorKind;
 use std::process::ExitCode;
 use std::{env, io};
-use commands::{Status, plain};
 
-// A keeper for the commands that keep nothing.
-#[derive(Drop)]
-struct NoKeeper;
-
-impl FileKeeper for NoKeeper {
-    ghost kept = { λ _. None };
-
-    ghost faults = { λ _. 0 };
-
-    fn put(&mut self, _name: &str, _bytes: &[u8]) -> Put {
-        Put::Memory
+fn main(rt: HostRuntime) -> ExitCode {
+    let status = match words(&rt) {
+        Ok(words) => run(&rt, &words).unwrap_or(Status::Memory),
+        Err(status) => status,
+    };
+    if status != Status::Done {
+        // There is nobody left to tell where standard error fails.
+        let _ = eprintln!(rt; "view: {status}");
     }
+    ExitCode::from(status.exit_code())
 }
 
-fn main(rt: HostRuntime) -> io::Result<ExitCode> {
-    let alloc = rt.alloc();
-    let mut words = Vec::new(alloc);
-    for word in env::args(&rt)?.skip(1) {
-        words.push(word)?;
-    }
-    let mut folder = Folder::here(alloc, rt.clone()?);
-    let mut input = ReadInlet::new(rt.reader());
-    let mut out = WriteOutlet::new(io::writer(&rt));
-    let status = plain(
-        alloc,
-        &words,
-        &mut folder,
-        &mut NoKeeper,
-        &mut input,
-        &mut out,
-    );
-    let (code, text) = match status {
-        Status::Done => return Ok(ExitCode::from(0)),
-        Status::Faulted => (1, "a subtree is faulty"),
-        Status::Usage => (2, "usage"),
-        Status::BadLayout(number) => {
-            eprintln!(rt; "view: layout fault {number}")?;
-            return Ok(ExitCode::from(3));
+// The words behind the program's name. One that isn't UTF-8 is a usage fault.
+fn words(rt: &HostRuntime) -> Result<Vec<String>, Status> {
+    let args = match env::args(rt) {
+        Ok(args) => args,
+        Err(error) => {
+            return Err(if error.kind() == ErrorKind::OutOfMemory {
+                Status::Memory
+            } else {
+                Status::Usage
+            });
         }
-        Status::ReadFault => (4, "read fault"),
-        Status::WriteFault => (5, "write fault"),
-        Status::InputFault => (6, "input fault"),
-        Status::Memory => (7, "out of memory"),
-        Status::InputLong => (8, "input too long"),
-        Status::NotYet => (9, "not yet"),
     };
-    eprintln!(rt; "view: {text}")?;
-    Ok(ExitCode::from(code))
+    let mut words = Vec::new(rt.alloc());
+    for word in args.skip(1) {
+        if words.push(word).is_err() {
+            return Err(Status::Memory);
+        }
+    }
+    Ok(words)
+}
+
+// Runs the words over the current folder.
+fn run(rt: &HostRuntime, words: &[String]) -> Result<Status, AllocError> {
+    let alloc = rt.alloc();
+    let mut files = Folder::here(alloc, rt.clone()?);
+    let mut keep = Folder::here(alloc, rt.clone()?);
+    let mut input = ReadInlet::new(rt.reader());
+    let mut out = WriteOutlet::new(io::writer(rt));
+    Ok(plain(
+        alloc, words, &mut files, &mut keep, &mut input, &mut out,
+    ))
 }
