@@ -5,10 +5,14 @@
 use std::io;
 use std::time::Duration;
 
+mod bits_loops;
 mod morton_loops;
+mod turn_loops;
 
 fn main(rt: HostRuntime) -> io::Result<()> {
-    morton_loops::run(&rt)
+    morton_loops::run(&rt)?;
+    bits_loops::run(&rt, rt.alloc())?;
+    turn_loops::run(&rt, rt.alloc())
 }
 
 // One line of each: the checksum of a loop, and the time that it took.
