@@ -1,12 +1,11 @@
 -- The subtree roots on a walk right below a subtree root.
-use Rattle.std.proofs.Common.{◌≡◌, ℕ, zero, suc, ◌+◌, ◌-◌, ◌*◌, ◌/◌, ◌%◌, ◌^◌, ◌<◌, ◌≤◌, Bool, true, false, List, [], ◌∷◌, map, refl, sym, ap, subst, ◌∙◌, arith}
-use Rattle.std.specs.Prelude.{◌&&◌, ◌||◌, ◌==◌, nat_lt, filter}
-use Rattle.std.specs.List.{flat_map, range_with_len, All}
+use Rattle.std.proofs.Common.{◌≡◌, ℕ, suc, ◌+◌, ◌-◌, ◌*◌, ◌/◌, ◌%◌, ◌^◌, ◌<◌, ◌≤◌, true, false, [], map, refl, sym, ap, subst, ◌∙◌, arith}
+use Rattle.std.specs.Prelude.{◌&&◌, ◌==◌, nat_lt, filter}
+use Rattle.std.specs.List.{flat_map, All}
 use Rattle.std.proofs.Math.Nat.{div-add-mod}
 use Rattle.std.proofs.lemmas.Nat.{mod-mul-add}
 use Rattle.std.proofs.lemmas.Bool.{and_parts, and_from, or_right, eq-eqb, eqb-true, false_from_ne_true, both_ways}
-use Rattle.implicit_tiling.specs.declared.Scheme.{Scheme}
-use Rattle.implicit_tiling.specs.Tile.{Tile, IsTile, branching, ancestor, parent, index, tile_at, tiles_of_level}
+use Rattle.implicit_tiling.specs.Tile.{Tile, IsTile, branching, parent, index, tile_at, tiles_of_level}
 use Rattle.implicit_tiling.specs.Region.{Region, is_in}
 use Rattle.implicit_tiling.specs.Scene.{Layout, Outcome, Scene, bad, child_bit_of}
 use Rattle.implicit_tiling.specs.Availability.{local_level, subtree_root, is_subtree_root, child_bit, is_available, is_reached}

@@ -1,9 +1,9 @@
 -- What a decoded subtree says of its tiles.
-use Rattle.std.proofs.Common.{◌≡◌, ℕ, ◌+◌, ◌-◌, ◌*◌, ◌^◌, ◌<◌, ◌≤◌, Bool, true, false, List, map, refl, sym, ap, subst, ◌∙◌, arith, add-zero}
+use Rattle.std.proofs.Common.{◌≡◌, ℕ, ◌+◌, ◌-◌, ◌*◌, ◌^◌, ◌<◌, Bool, true, false, List, map, sym, ap, subst, ◌∙◌, arith, add-zero}
 use Rattle.std.specs.Prelude.{◌&&◌, filter}
 use Rattle.std.specs.List.{range_with_len, All}
-use Rattle.std.proofs.lemmas.Bool.{and_parts, and_from}
-use Rattle.std.proofs.lemmas.List.Elements.{All-filter, filter_passes, All-weaker}
+use Rattle.std.proofs.lemmas.Bool.{and_parts}
+use Rattle.std.proofs.lemmas.List.Elements.{All-filter, filter_passes}
 use Rattle.implicit_tiling.specs.declared.Scheme.{Scheme}
 use Rattle.implicit_tiling.specs.Tile.{Tile, IsTile, branching, index, tile_at}
 use Rattle.implicit_tiling.specs.Region.{Region, is_in}
@@ -16,7 +16,7 @@ use Rattle.implicit_tiling.specs.Steps.{descendants, pair_of, segment}
 use Rattle.walk_laws.specs.Decoded.{IsDecoded}
 use Rattle.walk_laws.proofs.Lists.{map_same, map-map, filter_same, filter-map, of_range, range_shifted}
 use Rattle.walk_laws.proofs.Runs.{below}
-use Rattle.walk_laws.proofs.Plain.{plain, plain_is, IsPlain, same_test, available_is_bit, mask_is}
+use Rattle.walk_laws.proofs.Plain.{plain_is, IsPlain, available_is_bit, mask_is}
 
 -- a decoded subtree, spelled with the layout's scheme and levels
 pub is_plain : (s : Scene) (st : Subtree) → IsDecoded s st → IsPlain s st

@@ -1,16 +1,16 @@
 -- The faults on a walk, level by level.
-use Rattle.std.proofs.Common.{◌≡◌, ℕ, zero, suc, ◌+◌, ◌-◌, ◌%◌, ◌^◌, ◌<◌, ◌≤◌, Bool, true, false, List, [], ◌∷◌, ◌++◌, Option, Some, None, get_or, map, refl, sym, ap, subst, ◌∙◌, arith, inl, inr, zero-add}
+use Rattle.std.proofs.Common.{◌≡◌, ℕ, suc, ◌+◌, ◌-◌, ◌%◌, ◌≤◌, true, false, List, [], ◌∷◌, ◌++◌, Option, Some, None, get_or, map, sym, ap, ◌∙◌, arith, inl, inr, zero-add}
 use Rattle.std.specs.Prelude.{◌&&◌, ◌||◌, ◌==◌, nat_lt, filter, option_map}
 use Rattle.std.specs.List.{flat_map, range_with_len, filter_map, cons_option, All}
 use Rattle.std.proofs.lemmas.Bool.{and_parts, eq-eqb, eqb-true, ne_eqb, cases_eq, false_from_ne_true}
 use Rattle.std.proofs.lemmas.List.Elements.{filter_map-append}
 use Rattle.std.proofs.lemmas.Grind.{flat_map-append}
-use Rattle.implicit_tiling.specs.Tile.{Tile, IsTile, parent, tile_at, tiles_of_level, all_tiles}
+use Rattle.implicit_tiling.specs.Tile.{Tile, parent, tile_at, tiles_of_level, all_tiles}
 use Rattle.implicit_tiling.specs.Region.{Region, is_in}
 use Rattle.implicit_tiling.specs.Scene.{Scene, fault_of}
 use Rattle.implicit_tiling.specs.Availability.{local_level, is_subtree_root, child_bit, is_available, is_reached}
 use Rattle.implicit_tiling.specs.Answer.{is_on_walk, fault_at, first, first_fault}
-use Rattle.implicit_tiling.specs.Steps.{Pair, pair_of, pairs, root_level, walk_roots, fault_at_start, pair_fault}
+use Rattle.implicit_tiling.specs.Steps.{Pair, pair_of, pairs, root_level, walk_roots, fault_at_start}
 use Rattle.tiling_laws.proofs.TileAt.{tile_at_level}
 use Rattle.walk_laws.specs.Faults.{NoFaults, NoFaultsAbove}
 use Rattle.walk_laws.proofs.Lists.{filter_none, filter-flat_map, filter_map-flat_map, flat_map_same, flat_map_none, filter_map_same, filter_map_none, filter_map-map, of_range, range-append}
@@ -72,7 +72,7 @@ inner_faults s region l inner =
 
 pub level_faults : (s : Scene) (region : Region) (l : ℕ) → faults_of s region l ≡ filter_map (pair_fault_at s) (map (pair_of l) (walk_roots s region l))
 level_faults s region l =
-    elim (cases_eq (l % s.layout.subtree_levels) 0) [ | inl start ↦ start_faults s region l start | inr inner ↦ inner_faults s region l inner ]
+    elim (cases_eq (l % s.layout.subtree_levels) 0) [ inl start ↦ start_faults s region l start | inr inner ↦ inner_faults s region l inner ]
 
 -- all faults on the walk
 abbrev pub walk_faults : Scene → Region → List (Tile × ℕ)

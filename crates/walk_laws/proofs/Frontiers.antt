@@ -1,12 +1,12 @@
 -- The roots that are reached, level by level.
-use Rattle.std.proofs.Common.{◌≡◌, ℕ, zero, suc, ◌+◌, ◌-◌, ◌*◌, ◌/◌, ◌%◌, ◌^◌, ◌<◌, ◌≤◌, Bool, true, false, List, [], ◌∷◌, ◌++◌, refl, sym, ap, subst, ◌∙◌, arith, inl, inr, zero-add, append-nil}
+use Rattle.std.proofs.Common.{◌≡◌, ℕ, zero, suc, ◌+◌, ◌-◌, ◌*◌, ◌/◌, ◌%◌, ◌<◌, ◌≤◌, true, false, List, [], ◌++◌, sym, ap, subst, ◌∙◌, arith, inl, inr, zero-add, append-nil}
 use Rattle.std.specs.Prelude.{◌&&◌, ◌||◌, ◌==◌, nat_lt, filter}
-use Rattle.std.specs.List.{flat_map, range_with_len, All}
+use Rattle.std.specs.List.{flat_map, range_with_len}
 use Rattle.std.proofs.Math.Nat.{div-add-mod}
-use Rattle.std.proofs.lemmas.Nat.{mod_below, mod-mul-add}
+use Rattle.std.proofs.lemmas.Nat.{mod_below}
 use Rattle.std.proofs.lemmas.Bool.{and_parts, and_from, ltb-true, cases_eq, false_from_ne_true}
 use Rattle.std.proofs.lemmas.Grind.{flat_map-append}
-use Rattle.implicit_tiling.specs.Tile.{Tile, IsTile, parent, tile_at, tiles_of_level, all_tiles}
+use Rattle.implicit_tiling.specs.Tile.{Tile, IsTile, parent, tile_at, tiles_of_level}
 use Rattle.implicit_tiling.specs.Region.{Region, is_in}
 use Rattle.implicit_tiling.specs.Scene.{Scene}
 use Rattle.implicit_tiling.specs.Availability.{is_subtree_root, child_bit, is_available, is_reached}
@@ -18,7 +18,7 @@ use Rattle.walk_laws.specs.Children.{roots_below}
 use Rattle.walk_laws.specs.Frontiers.{whole_of, reached_above}
 use Rattle.walk_laws.proofs.Lists.{filter_same, filter_none, filter-flat_map, flat_map_none, of_range, range-append}
 use Rattle.walk_laws.proofs.Runs.{of_level}
-use Rattle.walk_laws.proofs.Segments.{local_of, local_low, at_start}
+use Rattle.walk_laws.proofs.Segments.{local_of}
 use Rattle.walk_laws.proofs.Plain.{same_test}
 use Rattle.walk_laws.proofs.Children.{next_level, roots_go_down}
 use Rattle.walk_laws.proofs.Faults.{roots_of_start, roots_of_inner}

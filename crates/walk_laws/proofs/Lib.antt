@@ -11,3 +11,6 @@ pub mod Faults
 pub mod StepLaw
 pub mod Whole
 pub mod Frontiers
+pub mod Pairs
+pub mod PairAnswers
+pub mod WalkRoots

@@ -1,6 +1,6 @@
 -- The pairs of a walk stand in the order of the keys of their tiles.
-use Rattle.std.proofs.Common.{◌≡◌, ℕ, zero, suc, ◌+◌, ◌-◌, ◌*◌, ◌^◌, ◌<◌, ◌≤◌, Bool, true, false, List, [], ◌∷◌, ◌++◌, Option, Some, None, get_or, map, refl, sym, ap, subst, ◌∙◌, arith, inl, inr}
-use Rattle.std.specs.Prelude.{◌&&◌, ◌==◌, filter}
+use Rattle.std.proofs.Common.{◌≡◌, ℕ, zero, suc, ◌+◌, ◌-◌, ◌^◌, ◌<◌, ◌≤◌, Bool, true, false, List, [], ◌∷◌, ◌++◌, Option, Some, get_or, map, refl, sym, ap, subst, ◌∙◌, arith, inl, inr}
+use Rattle.std.specs.Prelude.{◌&&◌, ◌==◌}
 use Rattle.std.specs.List.{flat_map, range_with_len, All, AllPairs}
 use Rattle.std.proofs.lemmas.Bool.{eqb-true, false_from_ne_true}
 use Rattle.std.proofs.lemmas.List.Elements.{All-nil, All-append, All-head, All-tail, All-map, All-filter}
@@ -17,7 +17,7 @@ use Rattle.tiling_laws.proofs.Order.{below_by_level, below_by_index, below_says,
 use Rattle.tiling_laws.proofs.Subtrees.{ancestor_none}
 use Rattle.walk_laws.proofs.Lists.{of_range}
 use Rattle.walk_laws.proofs.Runs.{below, below_level, below_ancestor, of_descendants}
-use Rattle.walk_laws.proofs.Segments.{of_walk_roots, local_low}
+use Rattle.walk_laws.proofs.Segments.{of_walk_roots}
 
 -- lists whose elements stand in an order, pair by pair
 pub all_pairs_append : {X : Type 0} (R : X → X → Type 0) (xs ys : List X) → AllPairs R xs → AllPairs R ys → All (λ x. All (R x) ys) xs → AllPairs R (xs ++ ys)
@@ -83,11 +83,11 @@ segment_own s region l r tile own =
 -- a key that isn't below another
 pub not_below_level : (scheme : Scheme) (t u : Tile) → u.level < t.level → is_key_below scheme t u ≡ false
 not_below_level scheme t u h =
-    false_from_ne_true (is_key_below scheme t u) (λ is. elim (below_says scheme t u is) [ | inl low ↦ omega arith | inr same ↦ omega (arith, same.0) ])
+    false_from_ne_true (is_key_below scheme t u) (λ is. elim (below_says scheme t u is) [ inl low ↦ omega arith | inr same ↦ omega (arith, same.0) ])
 
 pub not_below_index : (scheme : Scheme) (t u : Tile) → index scheme u ≤ index scheme t → u.level ≡ t.level → is_key_below scheme t u ≡ false
 not_below_index scheme t u h level =
-    false_from_ne_true (is_key_below scheme t u) (λ is. elim (below_says scheme t u is) [ | inl low ↦ omega arith | inr same ↦ omega (arith, same.1) ])
+    false_from_ne_true (is_key_below scheme t u) (λ is. elim (below_says scheme t u is) [ inl low ↦ omega arith | inr same ↦ omega (arith, same.1) ])
 
 -- the tiles of p stand below the root of a later pair q that has a fault, and those of q not below the root of p if it has one
 pub record IsAhead (s : Scene) (region : Region) (p q : Pair) : Type 0 where

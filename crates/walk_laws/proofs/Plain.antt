@@ -1,17 +1,16 @@
 -- The nodes of a subtree whose scheme and levels are spelled as the layout's: each node's bit is its tile's bit.
-use Rattle.std.proofs.Common.{◌≡◌, ℕ, zero, suc, ◌+◌, ◌-◌, ◌*◌, ◌/◌, ◌%◌, ◌^◌, ◌<◌, ◌≤◌, Bool, true, false, cond, List, [], ◌∷◌, None, length, map, refl, sym, ap, subst, ◌∙◌, arith, inl, inr, ◌⊎◌, lit<}
-use Rattle.std.specs.Prelude.{◌&&◌, ◌||◌, nat_lt, not, filter}
+use Rattle.std.proofs.Common.{◌≡◌, ℕ, zero, suc, ◌+◌, ◌-◌, ◌*◌, ◌/◌, ◌%◌, ◌^◌, ◌<◌, ◌≤◌, Bool, true, false, cond, List, [], ◌∷◌, length, map, refl, sym, ap, subst, ◌∙◌, arith, inl, inr, ◌⊎◌}
+use Rattle.std.specs.Prelude.{◌&&◌, nat_lt, not}
 use Rattle.std.specs.List.{range_with_len, list_any}
 use Rattle.std.proofs.Math.Nat.{pow-suc, mul_assoc}
-use Rattle.std.proofs.lemmas.Nat.{mod-mul-add, div_below}
-use Rattle.std.proofs.lemmas.Bool.{and_parts, and_from, or_parts, and_cases, cases_eq, both_ways, not-false, false≢true}
+use Rattle.std.proofs.lemmas.Nat.{mod-mul-add}
+use Rattle.std.proofs.lemmas.Bool.{and_parts, or_parts, cases_eq, false≢true}
 use Rattle.implicit_tiling.specs.declared.Scheme.{Scheme}
 use Rattle.implicit_tiling.specs.declared.Scheme.TheVariants.{Quad, Oct}
-use Rattle.implicit_tiling.specs.Tile.{Tile, IsTile, branching, ancestor, parent, child, index, tile_at}
+use Rattle.implicit_tiling.specs.Tile.{Tile, IsTile, branching, parent, child, index, tile_at}
 use Rattle.implicit_tiling.specs.Scene.{Layout, Outcome, Scene, good, tile_bit_of, fault_of, content_bits_of}
-use Rattle.implicit_tiling.specs.Availability.{local_level, subtree_root, nodes_above, place, tile_bit, is_available, is_reached, content_bit, mask_from, mask}
-use Rattle.implicit_tiling.specs.Subtree.{Subtree, IsOf, bit_at, is_kept, node_bit, has_tile, some_node, has_orphan, mask_of_bits, contents_mask, bits_of}
-use Rattle.tiling_laws.specs.Available.{IsThere}
+use Rattle.implicit_tiling.specs.Availability.{subtree_root, nodes_above, place, tile_bit, is_available, is_reached, mask_from, mask}
+use Rattle.implicit_tiling.specs.Subtree.{Subtree, IsOf, bit_at, is_kept, node_bit, has_tile, has_orphan, mask_of_bits, contents_mask, bits_of}
 use Rattle.tiling_laws.proofs.Subtrees.{ancestor_none}
 use Rattle.tiling_laws.proofs.Ancestors.{parent_of_child}
 use Rattle.tiling_laws.proofs.Available.{reached_says, available_as_written}
@@ -107,7 +106,7 @@ parent_is_there s st k m is low h there =
 -- the parent of the root, where there is one
 above_root : (s : Scene) (r : Tile) → is_reached s r ≡ true → (r.level ≡ 0) ⊎ (is_available s (parent r) ≡ true)
 above_root s r reached =
-    elim (cases_eq r.level 0) [ | inl top ↦ inl top | inr below ↦ inr (reached_says s r (omega arith) reached).0 ]
+    elim (cases_eq r.level 0) [ inl top ↦ inl top | inr below ↦ inr (reached_says s r (omega arith) reached).0 ]
 
 above_first : (s : Scene) (st : Subtree) (m : ℕ) → IsPlain s st → m < branching s.layout.scheme ^ 0
     → ((below s.layout.scheme 0 st.root m).level ≡ 0) ⊎ (is_available s (parent (below s.layout.scheme 0 st.root m)) ≡ true)

@@ -1,13 +1,12 @@
 -- Regions that are accepted, and the root on the walk of a region.
-use Rattle.std.proofs.Common.{◌≡◌, ℕ, zero, suc, ◌+◌, ◌-◌, ◌*◌, ◌/◌, ◌%◌, ◌^◌, ◌<◌, ◌≤◌, Bool, true, false, cond, List, [], ◌∷◌, Ok, Err, Result, refl, sym, ap, subst, ◌∙◌, arith, inl, inr}
+use Rattle.std.proofs.Common.{◌≡◌, ℕ, zero, suc, ◌-◌, ◌*◌, ◌/◌, ◌^◌, ◌<◌, ◌≤◌, Bool, true, false, cond, List, [], ◌∷◌, Ok, Result, refl, ap, subst, ◌∙◌, arith}
 use Rattle.std.specs.Prelude.{◌&&◌, ◌||◌, nat_lt, nat_le, slice_index, filter}
-use Rattle.std.proofs.Math.Nat.{zero-mod}
 use Rattle.std.proofs.lemmas.Nat.{div_below}
 use Rattle.std.proofs.lemmas.Bool.{and_from, or_parts, ltb-false, leb-false, le-leb}
 use Rattle.implicit_tiling.specs.declared.Scheme.{Scheme}
 use Rattle.implicit_tiling.specs.declared.Scheme.TheVariants.{Quad, Oct}
 use Rattle.implicit_tiling.specs.Checks.{refuse}
-use Rattle.implicit_tiling.specs.Tile.{Tile, root, branching, tile_at, tiles_of_level}
+use Rattle.implicit_tiling.specs.Tile.{root, tiles_of_level}
 use Rattle.implicit_tiling.specs.Region.{Region, is_in, is_within, some_axis, region_of}
 use Rattle.implicit_tiling.specs.Scene.{Scene}
 use Rattle.implicit_tiling.specs.Availability.{is_reached}
@@ -37,10 +36,13 @@ accepted_is_a_region levels level lo hi region h =
     let second = refuse_passes 2 (some_axis out_of_order) (refuse 3 (some_axis too_high) (Ok made)) region first.1 in
     let third = refuse_passes 3 (some_axis too_high) (Ok made) region second.1 in
     let same : made ≡ region = cc (third.1) in
-    let is : IsRegion made × (made.level < levels) = (record {
-      ordered = λ axis low. ltb-false (slice_index hi axis) (slice_index lo axis) (axis_fails out_of_order second.0 axis low);
-      fits = λ axis low. leb-false (2 ^ level) (slice_index hi axis) (axis_fails too_high third.0 axis low);
-    }, leb-false levels level first.0) in
+    let is : IsRegion made × (made.level < levels) = (
+      record {
+        ordered = λ axis low. ltb-false (slice_index hi axis) (slice_index lo axis) (axis_fails out_of_order second.0 axis low);
+        fits = λ axis low. leb-false (2 ^ level) (slice_index hi axis) (axis_fails too_high third.0 axis low);
+      },
+      leb-false levels level first.0,
+    ) in
     let P : Region → Type 0 = λ r. IsRegion r × (r.level < levels) in
     subst P same is
 

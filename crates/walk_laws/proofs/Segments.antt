@@ -6,7 +6,7 @@ use Rattle.std.proofs.Math.Nat.{div-add-mod}
 use Rattle.std.proofs.lemmas.Nat.{mod_below, mod-mul-add}
 use Rattle.std.proofs.lemmas.Bool.{and_parts, and_from, false_from_ne_true, both_ways}
 use Rattle.std.proofs.lemmas.List.Elements.{All-filter}
-use Rattle.implicit_tiling.specs.Tile.{Tile, IsTile, branching, ancestor, index, tile_at, tiles_of_level}
+use Rattle.implicit_tiling.specs.Tile.{Tile, IsTile, branching, ancestor, tile_at, tiles_of_level}
 use Rattle.implicit_tiling.specs.Region.{Region, is_in}
 use Rattle.implicit_tiling.specs.Scene.{Layout, Scene}
 use Rattle.implicit_tiling.specs.Availability.{local_level, subtree_root, is_available, is_reached}

@@ -1,15 +1,14 @@
 -- The steps of a walk are its answer.
-use Rattle.std.proofs.Common.{◌≡◌, ℕ, zero, suc, ◌+◌, ◌-◌, ◌<◌, ◌≤◌, Bool, true, false, List, [], ◌∷◌, ◌++◌, Option, Some, None, length, take, map, refl, sym, ap, subst, ◌∙◌, arith, zero-add}
+use Rattle.std.proofs.Common.{◌≡◌, ℕ, suc, ◌+◌, ◌≤◌, Bool, true, false, List, [], ◌∷◌, ◌++◌, Option, Some, None, length, take, map, refl, sym, ap, ◌∙◌, arith, zero-add}
 use Rattle.std.specs.Prelude.{◌&&◌, nat_lt, filter, option_map}
 use Rattle.std.specs.List.{flat_map, range_with_len, filter_map, cons_option, All, AllPairs}
-use Rattle.std.proofs.lemmas.List.Elements.{All-nil, All-cons, All-head, All-tail, filter-append}
-use Rattle.std.proofs.lemmas.Grind.{flat_map-append}
+use Rattle.std.proofs.lemmas.List.Elements.{All-cons, All-head, All-tail, filter-append}
 use Rattle.implicit_tiling.specs.Tile.{Tile, is_key_below, tiles_of_level, all_tiles, root}
 use Rattle.implicit_tiling.specs.Region.{Region, is_in}
 use Rattle.implicit_tiling.specs.Scene.{Scene}
 use Rattle.implicit_tiling.specs.Availability.{is_available}
-use Rattle.implicit_tiling.specs.Answer.{End, first, first_fault, is_before, tiles, most_tiles, end_from, end_of, answer}
-use Rattle.implicit_tiling.specs.Steps.{Pair, pair_of, pairs, walk_roots, segment, StepEnd, partial, ended, Step, pair_fault, steps}
+use Rattle.implicit_tiling.specs.Answer.{first, first_fault, is_before, tiles, most_tiles, end_from, end_of, answer}
+use Rattle.implicit_tiling.specs.Steps.{Pair, pair_of, pairs, walk_roots, segment, partial, ended, pair_fault, steps}
 use Rattle.walk_laws.specs.Regions.{IsRegion}
 use Rattle.walk_laws.specs.Stepped.{last_end}
 use Rattle.walk_laws.proofs.Lists.{filter_none, filter_all, filter-filter, filter-flat_map, flat_map-flat_map, flat_map-map, flat_map_same, of_range}

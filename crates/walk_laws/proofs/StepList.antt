@@ -1,5 +1,5 @@
 -- The steps of a list of pairs: their tiles and their end, by the pairs before the first fault.
-use Rattle.std.proofs.Common.{◌≡◌, ℕ, zero, suc, ◌+◌, ◌-◌, ◌<◌, ◌≤◌, Bool, true, false, List, [], ◌∷◌, ◌++◌, Option, Some, None, length, take, refl, sym, ap, ◌∙◌, arith, append-nil, length-append}
+use Rattle.std.proofs.Common.{◌≡◌, ℕ, suc, ◌+◌, ◌-◌, ◌≤◌, Bool, true, false, List, [], ◌∷◌, ◌++◌, Option, Some, None, length, take, refl, sym, ap, ◌∙◌, arith, append-nil, length-append}
 use Rattle.std.specs.Prelude.{nat_lt, option_map}
 use Rattle.std.specs.List.{flat_map, filter_map, cons_option, All, AllPairs}
 use Rattle.std.proofs.Math.Seq.{take-nil, take-append-add}
@@ -10,7 +10,7 @@ use Rattle.std.proofs.lemmas.List.Kept.{AllPairs-cons}
 use Rattle.implicit_tiling.specs.Tile.{Tile}
 use Rattle.implicit_tiling.specs.Region.{Region}
 use Rattle.implicit_tiling.specs.Scene.{Scene}
-use Rattle.implicit_tiling.specs.Answer.{End, complete, too_many, fault, first, most_tiles, end_at, end_from}
+use Rattle.implicit_tiling.specs.Answer.{too_many, fault, first, most_tiles, end_from}
 use Rattle.implicit_tiling.specs.Steps.{Pair, segment, StepEnd, partial, ended, Step, last_or_not, pair_fault, step_then, steps_from}
 use Rattle.walk_laws.specs.Stepped.{last_end}
 

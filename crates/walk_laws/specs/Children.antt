@@ -1,15 +1,16 @@
 -- The subtree roots on a walk, from level to level (OGC 22-025r4, implicit tiling: child subtree availability; the walk is
 -- this project's own).
 use Rattle.std.specs.Prelude.{ℕ, ◌≡◌, ◌+◌, ◌%◌, ◌≤◌, true, List, [], ◌∷◌, map, filter}
-use Rattle.std.specs.List.{flat_map}
+use Rattle.std.specs.List.{flat_map, All}
 use Rattle.implicit_tiling.specs.Tile.{Tile, IsTile, root}
-use Rattle.implicit_tiling.specs.Region.{Region}
+use Rattle.implicit_tiling.specs.Region.{Region, is_in}
 use Rattle.implicit_tiling.specs.Scene.{Scene, bad}
-use Rattle.implicit_tiling.specs.Availability.{is_subtree_root}
+use Rattle.implicit_tiling.specs.Availability.{is_subtree_root, is_reached}
 use Rattle.implicit_tiling.specs.Answer.{is_on_walk}
 use Rattle.implicit_tiling.specs.Subtree.{Subtree}
-use Rattle.implicit_tiling.specs.Nodes.{node_at, children_in}
-use Rattle.implicit_tiling.specs.Steps.{descendants, walk_roots}
+use Rattle.implicit_tiling.specs.Code.{word}
+use Rattle.implicit_tiling.specs.Nodes.{node_at, children_in, child_words}
+use Rattle.implicit_tiling.specs.Steps.{descendants, root_level, walk_roots}
 use Rattle.walk_laws.specs.Regions.{IsRegion}
 use Rattle.walk_laws.specs.Decoded.{IsDecoded}
 
@@ -22,6 +23,11 @@ abbrev pub ChildrenAreTheRootsBelow : Type 0
 ChildrenAreTheRootsBelow = (s : Scene) (region : Region) (st : Subtree) → IsDecoded s st
     → roots_below s region st.root ≡ map (node_at st st.levels) (children_in st region)
 
+-- and so are their words, with no contents
+abbrev pub ChildWordsAreRootWords : Type 0
+ChildWordsAreRootWords = (s : Scene) (region : Region) (st : Subtree) → IsDecoded s st
+    → map (λ r. word s.layout.scheme r 0) (roots_below s region st.root) ≡ child_words st region
+
 -- there are none below a faulty file
 abbrev pub NoRootBelowAFault : Type 0
 NoRootBelowAFault = (s : Scene) (region : Region) (r : Tile) (n : ℕ) → 1 ≤ s.layout.subtree_levels → IsTile s.layout.scheme r
@@ -31,6 +37,17 @@ NoRootBelowAFault = (s : Scene) (region : Region) (r : Tile) (n : ℕ) → 1 ≤
 abbrev pub RootsGoDown : Type 0
 RootsGoDown = (s : Scene) (region : Region) (l : ℕ) → 1 ≤ s.layout.subtree_levels → l % s.layout.subtree_levels ≡ 0
     → walk_roots s region (l + s.layout.subtree_levels) ≡ flat_map (roots_below s region) (walk_roots s region l)
+
+-- what a root on the walk is whose subtree has a level
+pub record IsWalkRoot (s : Scene) (region : Region) (l : ℕ) (r : Tile) : Type 0 where
+  pub tile : IsTile s.layout.scheme r
+  pub level : r.level ≡ root_level s.layout l
+  pub starts : is_subtree_root s.layout r ≡ true
+  pub reached : is_reached s r ≡ true
+  pub within : is_in region r ≡ true
+
+abbrev pub RootsAreOnTheWalk : Type 0
+RootsAreOnTheWalk = (s : Scene) (region : Region) (l : ℕ) → All (IsWalkRoot s region l) (walk_roots s region l)
 
 -- a walk begins with the root
 abbrev pub RootsBeginAtTheRoot : Type 0

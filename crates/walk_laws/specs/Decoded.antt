@@ -1,15 +1,14 @@
 -- A decoded subtree on the walk of a scene, and what its bits say of the tiles (OGC 22-025r4, implicit tiling:
 -- availability, tile availability, content availability, child subtree availability).
-use Rattle.std.specs.Prelude.{ℕ, ◌≡◌, ◌+◌, ◌<◌, ◌^◌, true, false, List, map, filter}
-use Rattle.implicit_tiling.specs.Tile.{Tile, branching}
+use Rattle.std.specs.Prelude.{ℕ, ◌≡◌, ◌+◌, ◌<◌, ◌^◌, true, false, map}
+use Rattle.implicit_tiling.specs.Tile.{branching}
 use Rattle.implicit_tiling.specs.Region.{Region}
 use Rattle.implicit_tiling.specs.Scene.{Scene, good}
 use Rattle.implicit_tiling.specs.Availability.{is_available, is_reached, mask}
-use Rattle.implicit_tiling.specs.Answer.{is_on_walk}
 use Rattle.implicit_tiling.specs.Subtree.{Subtree, IsSubtree, IsOf, has_orphan, has_tile, contents_mask, bits_of}
 use Rattle.implicit_tiling.specs.Code.{word}
-use Rattle.implicit_tiling.specs.Nodes.{node_at, tiles_in, children_in, level_words}
-use Rattle.implicit_tiling.specs.Steps.{descendants, pair_of, segment}
+use Rattle.implicit_tiling.specs.Nodes.{node_at, tiles_in, level_words}
+use Rattle.implicit_tiling.specs.Steps.{pair_of, segment}
 
 -- the subtree is what the scene's file of its root says, no node is an orphan, and the root is reached
 pub record IsDecoded (s : Scene) (st : Subtree) : Type 0 where

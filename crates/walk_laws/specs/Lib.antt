@@ -5,3 +5,4 @@ pub mod Children
 pub mod Stepped
 pub mod Faults
 pub mod Frontiers
+pub mod Pairs

@@ -4,6 +4,7 @@
 #![tactic(auto)]
 
 pub mod frontier_laws;
+pub mod pair_laws;
 pub mod root_laws;
 pub mod split_laws;
 pub mod step_laws;

@@ -1,0 +1,5 @@
+use Rattle.walk_laws.proofs.PairAnswers.{answer_is_complete}
+use Rattle.walk_laws.proofs.pair_laws.an_answer_is_complete.Goals as goal
+
+pub returns : goal.returns
+returns c = answer_is_complete
