@@ -1,0 +1,6 @@
+pub mod Pending
+pub mod Outcomes
+pub mod Roots
+pub mod Appended
+pub mod Walks
+pub mod Plans
