@@ -1,10 +1,9 @@
 -- Subtree files whose availabilities are constants: so far the outcome of a file is known of these alone (OGC 22-025r4,
 -- subtree JSON format: constant availability).
-use Rattle.std.specs.Prelude.{ℕ, ◌+◌, ◌&&◌, ◌||◌, ◌==◌, nat_lt, not, Bool, true, false, List, [], ◌∷◌, length, take, drop, codes, Option, Some, None, option_and_then, Result, Ok, Err, if◌then◌else◌}
-use Rattle.std.specs.Str.{bytes_eq}
+use Rattle.std.specs.Prelude.{ℕ, ◌&&◌, ◌||◌, ◌==◌, not, Bool, true, false, List, [], ◌∷◌, length, codes, Option, Some, None, option_and_then, Result, Ok, Err, if◌then◌else◌}
 use Rattle.serde_json.specs.Data.{Data}
 use Rattle.serde_json.specs.Find.{get, as_array}
-use Rattle.implicit_tiling.specs.Checks.{need, refuse}
+use Rattle.implicit_tiling.specs.Checks.{need}
 use Rattle.implicit_tiling.specs.Tile.{Tile}
 use Rattle.implicit_tiling.specs.Scene.{Layout, Bits, Outcome, good, bad}
 use Rattle.implicit_tileset.specs.SubtreeFile.{Parts, parts_of, and_then}

@@ -93,15 +93,18 @@ content_from None = malformed
 abbrev pub content_of : Data → Option ContentPart
 content_of value = Some (content_from (availability_of value))
 
--- The record that the JSON part states, or the first of the faults 7 to 11: 7 it is no JSON, 8 no object, 9 a buffer is
--- faulty, 10 a buffer view is, 11 the availability of tiles or of child subtrees is, or that of contents is no list.
-abbrev pub record_of : List ℕ → Result SubtreeRecord ℕ
-record_of part =
-    need 7 (json_of part) (λ any.
+-- The record that a JSON value states, or the first of the faults 8 to 11: 8 it is no object, 9 a buffer is faulty, 10 a
+-- buffer view is, 11 the availability of tiles or of child subtrees is, or that of contents is no list.
+abbrev pub record_of_value : Data → Result SubtreeRecord ℕ
+record_of_value any =
     need 8 (object_of any) (λ value.
     need 9 (list_read buffer_of (get (codes "buffers") value)) (λ buffers.
     need 10 (list_read view_of (get (codes "bufferViews") value)) (λ views.
     need 11 (availability_at (codes "tileAvailability") value) (λ tiles.
     need 11 (list_read content_of (get (codes "contentAvailability") value)) (λ contents.
     need 11 (availability_at (codes "childSubtreeAvailability") value) (λ child.
-    Ok (record { buffers = buffers; views = views; tiles = tiles; contents = contents; child = child }))))))))
+    Ok (record { buffers = buffers; views = views; tiles = tiles; contents = contents; child = child })))))))
+
+-- the record of the JSON part: 7 it is no JSON
+abbrev pub record_of : List ℕ → Result SubtreeRecord ℕ
+record_of part = need 7 (json_of part) record_of_value

@@ -1,11 +1,13 @@
 -- The layout that the bytes of `tileset.json` state, or the number of their first fault of 3 to 12.
-use Rattle.std.specs.Prelude.{ℕ, ◌&&◌, ◌==◌, nat_lt, nat_le, not, Bool, true, false, List, [], ◌∷◌, length, codes, Option, Some, None, option_and_then, option_map, Result, Ok, if◌then◌else◌}
-use Rattle.std.specs.List.{list_all}
+use Rattle.std.specs.Prelude.{ℕ, ◌&&◌, nat_lt, nat_le, Bool, true, false, List, [], ◌∷◌, length, codes, Option, Some, None, option_and_then, option_map, Result, Ok, if◌then◌else◌}
 use Rattle.std.specs.Str.{bytes_eq}
 use Rattle.serde_json.specs.Data.{Data}
 use Rattle.serde_json.specs.Find.{get, as_array}
 use Rattle.implicit_tiling.specs.declared.Scheme.{Scheme}
 use Rattle.implicit_tiling.specs.declared.Scheme.TheVariants.{Quad, Oct}
+pub use Rattle.implicit_tiling.specs.Limits.{most_levels, most_subtree_levels}
+pub use Rattle.implicit_tiling.specs.Template.{is_template}
+use Rattle.implicit_tiling.specs.Limits.{most_contents}
 use Rattle.implicit_tiling.specs.Checks.{need, refuse}
 use Rattle.implicit_tiling.specs.Scene.{Layout}
 use Rattle.implicit_tileset.specs.Json.{json_of, object_at, number_at, text_at, has_member, list_of}
@@ -13,26 +15,9 @@ use Rattle.implicit_tileset.specs.Json.{json_of, object_at, number_at, text_at, 
 abbrev pub scheme_named : List ℕ → Option Scheme
 scheme_named text = if bytes_eq text (codes "QUADTREE") then Some Quad else (if bytes_eq text (codes "OCTREE") then Some Oct else None)
 
--- the most levels in all, and in a subtree
-abbrev pub most_levels : Scheme → ℕ
-most_levels Quad = 26
-most_levels Oct = 18
-
-abbrev pub most_subtree_levels : Scheme → ℕ
-most_subtree_levels Quad = 10
-most_subtree_levels Oct = 7
-
 -- a whole number from 1 to this
 abbrev pub from_one_to : ℕ → Option ℕ → Option ℕ
 from_one_to most n = option_and_then (λ k. if nat_le 1 k && nat_le k most then Some k else None) n
-
--- none of the bytes is a control character
-abbrev pub is_printable : List ℕ → Bool
-is_printable text = list_all (λ c. nat_le 32 c && not (c == 127)) text
-
--- at most 1,024 bytes, none of them a control character
-abbrev pub is_template : List ℕ → Bool
-is_template text = nat_le (length text) 1024 && is_printable text
 
 -- the template that an object has as its `uri`
 abbrev pub template_of : Data → Option (List ℕ)
@@ -62,7 +47,7 @@ layout_of_value value =
     need 9 (option_and_then template_of (get (codes "subtrees") implicit)) (λ subtree.
     refuse 10 (has_member (codes "content") tile && has_member (codes "contents") tile)
     (need 11 (contents_of tile) (λ contents.
-    refuse 12 (nat_lt 8 (length contents))
+    refuse 12 (nat_lt most_contents (length contents))
     (Ok (record { scheme = scheme; subtree_levels = subtree_levels; levels = levels; subtree = subtree; contents = contents }))))))))))
 
 abbrev pub layout_of : List ℕ → Result Layout ℕ

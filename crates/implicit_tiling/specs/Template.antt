@@ -1,11 +1,22 @@
 -- URI templates, and what stands for their variables (OGC 22-025r4, implicit tiling: template URIs). Text that is no
--- variable is copied, `{z}` in a quadtree among it.
-use Rattle.std.specs.Prelude.{ℕ, zero, suc, ◌-◌, List, [], ◌∷◌, ◌++◌, length, Option, Some, None, codes, nat_eq, if◌then◌else◌}
-use Rattle.std.specs.List.{starts_with}
+-- variable is copied, `{z}` in a quadtree among it. The limits of a template are this project's own.
+use Rattle.std.specs.Prelude.{ℕ, zero, suc, ◌-◌, ◌&&◌, ◌==◌, nat_le, not, Bool, List, [], ◌∷◌, ◌++◌, length, Option, Some, None, codes, nat_eq, if◌then◌else◌}
+use Rattle.std.specs.List.{starts_with, list_all}
 use Rattle.std.specs.Fmt.{decimal}
 use Rattle.implicit_tiling.specs.declared.Scheme.{Scheme}
 use Rattle.implicit_tiling.specs.declared.Scheme.TheVariants.{Quad, Oct}
 use Rattle.implicit_tiling.specs.Tile.{Tile}
+
+-- the most bytes of a template
+abbrev pub most_template_bytes : ℕ
+most_template_bytes = 1024
+
+-- none of the bytes is a control character
+abbrev pub is_printable : List ℕ → Bool
+is_printable text = list_all (λ c. nat_le 32 c && not (c == 127)) text
+
+abbrev pub is_template : List ℕ → Bool
+is_template text = nat_le (length text) most_template_bytes && is_printable text
 
 -- the variables of a scheme with their numbers at a tile
 abbrev pub variables : Scheme → Tile → List (List ℕ × ℕ)

@@ -41,7 +41,7 @@ line_written layout scheme contents t m old one two three same_scheme same_conte
     let names = flat_map after_tab (contents_from layout.scheme t m 0 layout.contents) in
     let one_is : one ≡ old ++ place = first ∙ ap (λ s. old ++ joined (coordinates s t)) same_scheme in
     let two_is : two ≡ one ++ names = second ∙ ap (λ s. one ++ flat_map after_tab (contents_from s t m 0 contents)) same_scheme
-        ∙ ap (λ cs. one ++ flat_map after_tab (contents_from layout.scheme t m 0 cs)) same_contents in
+    ∙ ap (λ cs. one ++ flat_map after_tab (contents_from layout.scheme t m 0 cs)) same_contents in
     let whole : joined (coordinates layout.scheme t ++ contents_from layout.scheme t m 0 layout.contents) ≡ place ++ names = place_and_more layout.scheme t (contents_from layout.scheme t m 0 layout.contents) in
     third ∙ ap (λ w. w ++ (10 ∷ [])) (two_is ∙ ap (λ w. w ++ names) one_is ∙ append_assoc old place names)
     ∙ append_assoc old (place ++ names) (10 ∷ []) ∙ ap (λ w. old ++ (w ++ (10 ∷ []))) (sym whole)

@@ -31,7 +31,7 @@ line_held : (before now : Option (List ℕ)) (line : ℕ → List ℕ) (words : 
     → one ≡ held ++ line (get_or words i 0) → GivesAllBut before now one (flat_map line (take (i + 1) words))
 line_held before now line words i held one within lines gained =
     let more : flat_map line (take (i + 1) words) ≡ flat_map line (take i words) ++ line (get_or words i 0) =
-        ap (flat_map line) (take_more words i 0 within) ∙ flat_map-append line (take i words) (get_or words i 0 ∷ []) ∙ ap (λ w. flat_map line (take i words) ++ w) (append-nil (line (get_or words i 0))) in
+    ap (flat_map line) (take_more words i 0 within) ∙ flat_map-append line (take i words) (get_or words i 0 ∷ []) ∙ ap (λ w. flat_map line (take i words) ++ w) (append-nil (line (get_or words i 0))) in
     rw (gained, more) (all_but_line before now held (flat_map line (take i words)) (line (get_or words i 0)) lines)
 
 -- and is given, but for what is held back then

@@ -149,11 +149,7 @@ fn push_fault(
 }
 
 // Appends the level and the coordinates of a tile, joined by TAB.
-fn push_coordinates(
-    scheme: Scheme,
-    tile: &Tile,
-    piece: &mut String,
-) -> Result<(), AllocError>
+fn push_coordinates(scheme: Scheme, tile: &Tile, piece: &mut String) -> Result<(), AllocError>
     ensures { OnOk result (string_bytes piece.new ≡ string_bytes piece.old ++ joined (coordinates scheme tile.now)) }
 {
     push_number(tile.level, piece)?;
@@ -210,10 +206,5 @@ fn push_content(
     ensures { OnOk result (string_bytes piece.new ≡ string_bytes piece.old ++ after_tab (filled scheme template.now tile.now)) }
 {
     piece.push('\t')?;
-    template.fill(
-        scheme.axes(),
-        tile.level,
-        [tile.x, tile.y, tile.z],
-        piece,
-    )
+    template.fill(scheme.axes(), tile.level, [tile.x, tile.y, tile.z], piece)
 }

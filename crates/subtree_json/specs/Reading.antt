@@ -1,11 +1,9 @@
 -- What the reader of a subtree's JSON answers, beside what is stated (this project's own).
-use Rattle.std.specs.Prelude.{ℕ, ◌≡◌, List, codes, Option, Some, None, Result, Ok, Err, Vec, map}
+use Rattle.std.specs.Prelude.{ℕ, ◌≡◌, List, Option, Some, None, Result, Ok, Err, Vec, map}
 use Rattle.std.specs.declared.alloc.Global.{Global}
 use Rattle.serde_json.specs.Data.{Data}
-use Rattle.serde_json.specs.Find.{get}
 use Rattle.implicit_tiling.specs.Checks.{need}
-use Rattle.implicit_tileset.specs.Json.{object_of}
-use Rattle.implicit_tileset.specs.Record.{SubtreeRecord, ContentPart as content_part, list_read, buffer_of, view_of, content_of, availability_at}
+use Rattle.implicit_tileset.specs.Record.{ContentPart as content_part, list_read}
 use Rattle.subtree_json.specs.declared.fault.JsonFault.{JsonFault}
 use Rattle.subtree_json.specs.declared.part.ContentPart.{ContentPart}
 use Rattle.subtree_json.specs.Faults.{fault_number}
@@ -34,14 +32,3 @@ ReadsContents stated (Err fault) = IsStated stated (fault_number fault)
 -- a list that may be absent, or this fault
 abbrev pub listed : {A : Type 0} → ℕ → (Data → Option A) → Option Data → Result (List A) ℕ
 listed number of member = need number (list_read of member) Ok
-
--- the record that a value states, or its first fault of 8 to 11
-abbrev pub record_of_value : Data → Result SubtreeRecord ℕ
-record_of_value any =
-    need 8 (object_of any) (λ value.
-    need 9 (list_read buffer_of (get (codes "buffers") value)) (λ buffers.
-    need 10 (list_read view_of (get (codes "bufferViews") value)) (λ views.
-    need 11 (availability_at (codes "tileAvailability") value) (λ tiles.
-    need 11 (list_read content_of (get (codes "contentAvailability") value)) (λ contents.
-    need 11 (availability_at (codes "childSubtreeAvailability") value) (λ child.
-    Ok (record { buffers = buffers; views = views; tiles = tiles; contents = contents; child = child })))))))

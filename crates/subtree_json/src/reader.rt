@@ -1,7 +1,7 @@
 // Reading a record.
 ghost use Rattle.serde_json.specs.View.{view};
-ghost use Rattle.implicit_tileset.specs.Record.{record_of};
-ghost use Rattle.subtree_json.specs.Reading.{Reads, record_of_value};
+ghost use Rattle.implicit_tileset.specs.Record.{record_of, record_of_value};
+ghost use Rattle.subtree_json.specs.Reading.{Reads};
 
 use crate::fault::JsonFault;
 use crate::lists::{read_buffers, read_contents, read_views};

@@ -5,7 +5,14 @@ use std::test::Fail;
 #[test]
 fn tiles_and_regions(rt: HostRuntime) -> Result<(), Fail> {
     let tile = Tile::new(Scheme::Quad, 2, 3, 1, 0);
-    assert!(rt; tile == Some(Tile { level: 2, x: 3, y: 1, z: 0 }));
+    assert!(rt;
+        tile == Some(Tile {
+            level: 2,
+            x: 3,
+            y: 1,
+            z: 0
+        })
+    );
     assert!(rt; Tile::new(Scheme::Quad, 2, 4, 1, 0).is_none());
     assert!(rt; Tile::new(Scheme::Quad, 2, 3, 1, 1).is_none());
     assert!(rt; Tile::new(Scheme::Oct, 2, 3, 1, 1).is_some());
@@ -21,7 +28,10 @@ fn tiles_and_regions(rt: HostRuntime) -> Result<(), Fail> {
         match Region::new(Scheme::Quad, 2, level, lo, hi) {
             Ok(region) => {
                 assert!(rt; wanted == Ok(()));
-                let plan = Plan { scheme: Scheme::Quad, region };
+                let plan = Plan {
+                    scheme: Scheme::Quad,
+                    region,
+                };
                 assert!(rt; plan == plan);
                 assert!(rt; region.meets(&Tile::root()));
             }

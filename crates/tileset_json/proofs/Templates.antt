@@ -1,4 +1,4 @@
--- Templates are what the definitions of a tileset take for templates, and a list of them is read one by one.
+-- A list of templates is read one by one.
 use Rattle.std.proofs.Common.{◌≡◌, ℕ, suc, ◌+◌, ◌<◌, ◌≤◌, List, [], ◌∷◌, ◌++◌, length, drop, get_or, refl, sym, ap, ◌∙◌, add-one, append-nil, append_assoc}
 use Rattle.std.proofs.Math.Seq.{drop-cons}
 use Rattle.std.proofs.Math.ListN.{drop_of_length-le}
@@ -6,11 +6,7 @@ use Rattle.std.specs.Prelude.{Option, Some, None, option_map}
 use Rattle.serde_json.specs.View.{view, items_view}
 use Rattle.serde_json.specs.declared.value.Value.{Value}
 use Rattle.implicit_tileset.specs.Json.{list_of}
-use Rattle.uri_template.specs.Template.{is_template as is_template_text}
-use Rattle.implicit_tileset.specs.Tileset.{is_template, template_of, templates_of}
-
-pub same_templates : (text : List ℕ) → is_template_text text ≡ is_template text
-same_templates text = refl
+use Rattle.implicit_tileset.specs.Tileset.{template_of, templates_of}
 
 -- the templates that were read, and those of the values that are left
 abbrev pub with_rest : List (List ℕ) → List Value → Option (List (List ℕ))

@@ -1,8 +1,7 @@
 // Templates: texts that were tested once, and are filled for many tiles.
 ghost use Rattle.std.specs.Prelude.{◌≡◌, ◌<◌, ◌≤◌, ◌↔◌, ◌++◌, false, IfOk, OnOk, OnErr, string_bytes, is_ok, length};
-ghost use Rattle.implicit_tiling.specs.Template.{filled};
 ghost use Rattle.uri_template.specs.Filling.{scheme_of, tile_of};
-ghost use Rattle.uri_template.specs.Template.{is_template, is_printable as printable};
+ghost use Rattle.implicit_tiling.specs.Template.{filled, is_template, is_printable as printable};
 
 use crate::filling::append_filled;
 use std::alloc::AllocError;
@@ -19,7 +18,7 @@ pub struct Template {
 
 impl Model for Template {
     ghost use Rattle.std.specs.Prelude.{List, ℕ, string_bytes, IsTrue};
-    ghost use Rattle.uri_template.specs.Template.{is_template};
+    ghost use Rattle.implicit_tiling.specs.Template.{is_template};
 
     ghost Value = { List ℕ };
 

@@ -1,0 +1,4 @@
+pub mod Scan
+pub mod NodeTiles
+pub mod NodesInRegion
+pub mod NodeWords

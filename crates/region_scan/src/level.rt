@@ -1,0 +1,62 @@
+// The tiles of one local level.
+ghost use Rattle.std.specs.Prelude.{◌≡◌, ◌+◌, ◌++◌, ◌<◌, IfOk, IfErr, MatchResult, take, length, nat_lt};
+ghost use Rattle.implicit_tiling.specs.Nodes.{level_words};
+ghost use Rattle.region_scan.specs.Found.{Extends};
+
+use crate::nodes::{first_at, is_looked_at, tile_in};
+use availability::{Subtree, nodes_at};
+use std::alloc::AllocError;
+use tile_coords::{Region, Word};
+
+/// Appends the words of the first `limit` tiles of a local level that are in the region, in key order, and answers
+/// whether there are more (OGC 22-025r4, tile availability). Memory is the one error; it leaves `out` as it was.
+pub fn level_tiles(
+    subtree: &Subtree,
+    local: u32,
+    region: &Region,
+    limit: usize,
+    out: &mut Vec<Word>,
+) -> Result<bool, AllocError>
+    requires { local < subtree.now.levels }
+    ensures appended { IfOk result (λ more. out.new.items ≡ out.old.items ++ take limit (level_words subtree.now region.now local)) }
+    ensures more { IfOk result (λ more. more ≡ nat_lt limit (length (level_words subtree.now region.now local))) }
+    ensures unchanged { IfErr result (λ e. out.new.items ≡ out.old.items) }
+{
+    if !is_looked_at(subtree, local, region) {
+        return Ok(false);
+    }
+    let begin = out.len();
+    let result = append_tiles(subtree, local, region, limit, out);
+    if result.is_err() {
+        out.truncate(begin);
+    }
+    result
+}
+
+// The same at a level that is kept; an error leaves what was found before it.
+fn append_tiles(
+    subtree: &Subtree,
+    local: u32,
+    region: &Region,
+    limit: usize,
+    out: &mut Vec<Word>,
+) -> Result<bool, AllocError>
+    requires local { local < subtree.now.levels }
+    requires kept { subtree.now.root.level + local < subtree.now.cut }
+    ensures appended { IfOk result (λ more. out.new.items ≡ out.old.items ++ take limit (level_words subtree.now region.now local)) }
+    ensures more { IfOk result (λ more. more ≡ nat_lt limit (length (level_words subtree.now region.now local))) }
+    ensures begun { IfErr result (λ e. Extends out.old.items out.new.items) }
+{
+    let first = first_at(subtree, local);
+    let mut left = limit;
+    for index in 0..nodes_at(subtree.scheme, local) {
+        if let Some(word) = tile_in(subtree, local, first, region, index) {
+            if left == 0 {
+                return Ok(true);
+            }
+            out.push(word)?;
+            left -= 1;
+        }
+    }
+    Ok(false)
+}

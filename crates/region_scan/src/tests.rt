@@ -1,0 +1,136 @@
+// Regions and limits over worked subtrees.
+ghost use Rattle.std.specs.Prelude.{◌≡◌, IfOk, length};
+
+use crate::{child_roots, level_tiles};
+use availability::Subtree;
+use bitstream::Bits;
+use std::alloc::{AllocError, Global};
+use std::test::Fail;
+use tile_coords::{Region, Scheme, Tile, Word};
+
+// A word of level 1, and one of the first content.
+const LEVEL: Word = 1 << 59;
+
+const CONTENT: Word = 1 << 51;
+
+// The bits 1, 1, 1, 1, 0.
+fn five_bits(alloc: Global) -> Result<Bits, AllocError>
+    ensures { IfOk result (λ bits. length bits ≡ 5) }
+{
+    let mut bytes = Vec::new(alloc);
+    bytes.push(0x0F)?;
+    match Bits::of_bytes(bytes, 5) {
+        Some(bits) => Ok(bits),
+        None => Ok(Bits::constant(false, 5)),
+    }
+}
+
+// Two levels of a quadtree below the tile 1,0 of level 1, of four levels in all. The last node isn't there; each node
+// has a content bit, and each child bit is 1.
+fn quadtree(alloc: Global) -> Result<Subtree, AllocError>
+    ensures { IfOk result (λ s. (s.scheme ≡ Scheme.Quad) × (s.levels ≡ 2)) }
+{
+    let tiles = five_bits(alloc)?;
+    let mut contents = Vec::new(alloc);
+    contents.push(Bits::constant(true, 5))?;
+    Ok(Subtree {
+        scheme: Scheme::Quad,
+        levels: 2,
+        cut: 4,
+        root: Tile {
+            level: 1,
+            x: 1,
+            y: 0,
+            z: 0,
+        },
+        tiles,
+        contents,
+        child: Bits::constant(true, 16),
+    })
+}
+
+#[test]
+fn regions_and_limits(rt: HostRuntime) -> Result<(), Fail> {
+    // a region's level and box, the limit, the tiles of local level 1, whether there are more, and the child roots
+    let tile = 2 * LEVEL + CONTENT;
+    let root = 3 * LEVEL + 16;
+    let rows: [(u32, [u32; 3], [u32; 3], usize, &[Word], bool, &[Word]); 9] = [
+        (
+            2,
+            [0, 0, 0],
+            [3, 3, 0],
+            3,
+            &[tile + 4, tile + 5, tile + 6],
+            false,
+            &[],
+        ),
+        (2, [0, 0, 0], [3, 3, 0], 2, &[tile + 4, tile + 5], true, &[]),
+        (2, [0, 0, 0], [3, 3, 0], 0, &[], true, &[]),
+        (
+            2,
+            [0, 0, 0],
+            [3, 3, 0],
+            4,
+            &[tile + 4, tile + 5, tile + 6],
+            false,
+            &[],
+        ),
+        (1, [0, 0, 0], [1, 1, 0], 9, &[], false, &[]),
+        (2, [0, 2, 0], [1, 3, 0], 9, &[], false, &[]),
+        (
+            4,
+            [12, 1, 0],
+            [12, 1, 0],
+            9,
+            &[tile + 5],
+            false,
+            &[root + 4],
+        ),
+        (3, [6, 2, 0], [7, 3, 0], 0, &[], false, &[]),
+        (
+            3,
+            [5, 0, 0],
+            [6, 0, 0],
+            9,
+            &[tile + 4, tile + 5],
+            false,
+            &[root + 1, root + 4],
+        ),
+    ];
+    for (level, lo, hi, limit, tiles, more, roots) in rows {
+        let alloc = rt.alloc();
+        let subtree = quadtree(alloc)?;
+        let region = Region { level, lo, hi };
+        let mut out = Vec::new(alloc);
+        assert!(rt; level_tiles(&subtree, 1, &region, limit, &mut out)? == more);
+        assert!(rt; out.as_slice() == tiles);
+        out.clear();
+        child_roots(&subtree, &region, &mut out)?;
+        assert!(rt; out.as_slice() == roots);
+    }
+    Ok(())
+}
+
+#[test]
+fn the_deepest_octree(rt: HostRuntime) -> Result<(), Fail> {
+    let alloc = rt.alloc();
+    let subtree = Subtree {
+        scheme: Scheme::Oct,
+        levels: 7,
+        cut: 18,
+        root: Tile::root(),
+        tiles: Bits::constant(true, 299_593),
+        contents: Vec::new(alloc),
+        child: Bits::constant(true, 2_097_152),
+    };
+    let region = Region {
+        level: 6,
+        lo: [63, 0, 63],
+        hi: [63, 0, 63],
+    };
+    let mut out = Vec::new(alloc);
+    assert!(rt; !level_tiles(&subtree, 6, &region, 9, &mut out)?);
+    child_roots(&subtree, &region, &mut out)?;
+    assert!(rt; out.as_slice() == [6 * LEVEL + 187_245].as_slice());
+    Ok(())
+}
