@@ -1,2 +1,4 @@
 pub mod Stating
 pub mod Reading
+pub mod Words
+pub mod Steps

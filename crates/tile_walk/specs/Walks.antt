@@ -1,12 +1,12 @@
 -- How a walk goes on over some of its pairs, and how it ends (this project's own).
-use Rattle.std.specs.Prelude.{ℕ, ◌≡◌, ◌+◌, ◌%◌, ◌==◌, ◌<◌, ◌≤◌, Bool, true, false, List, [], ◌∷◌, ◌++◌, length, take, map, Some}
+use Rattle.std.specs.Prelude.{ℕ, ◌≡◌, ◌+◌, ◌%◌, ◌==◌, ◌<◌, ◌≤◌, Bool, true, false, List, [], ◌∷◌, ◌++◌, length, take, map, Some, None}
 use Rattle.implicit_tiling.specs.declared.Scheme.{Scheme}
 use Rattle.implicit_tiling.specs.Tile.{Tile}
 use Rattle.implicit_tiling.specs.Region.{Region}
-use Rattle.implicit_tiling.specs.Scene.{Scene}
+use Rattle.implicit_tiling.specs.Scene.{Scene, fault_of}
 use Rattle.implicit_tiling.specs.Availability.{mask}
 use Rattle.implicit_tiling.specs.Code.{word, word_tile, IsWord}
-use Rattle.implicit_tiling.specs.Answer.{most_tiles, answer}
+use Rattle.implicit_tiling.specs.Answer.{is_on_walk, most_tiles, answer}
 use Rattle.implicit_tiling.specs.Steps.{Pair, pair_of, pair_fault, ended}
 use Rattle.walk_laws.specs.Children.{roots_below}
 use Rattle.walk_laws.specs.Pairs.{NoPairFaults, tiles_of_pairs}
@@ -66,6 +66,11 @@ if_last false roots = []
 
 abbrev pub next_roots : Scene → Region → ℕ → Tile → List Tile
 next_roots s region level r = if_last (level % s.layout.subtree_levels + 1 == s.layout.subtree_levels) (roots_below s region r)
+
+-- what is known of a root when a level of its subtree is walked: it is on the walk, and below its own level its file has no fault
+pub record IsWalked (s : Scene) (region : Region) (level w : ℕ) : Type 0 where
+  pub on_walk : is_on_walk s region (word_tile s.layout.scheme w) ≡ true
+  pub no_fault : (level % s.layout.subtree_levels ≡ 0 → ⊥) → fault_of (s.outcome (word_tile s.layout.scheme w)) ≡ None
 
 -- the root of an end is a word
 abbrev pub EndsAtWord : Scheme → WalkEnd → Type 0

@@ -1,13 +1,12 @@
 // One level of a walk.
 ghost use Rattle.std.specs.Prelude.{◌≡◌, ◌+◌, ◌≤◌, ◌++◌, map, true, IfOk, IfSome, Ok, Err};
 ghost use Rattle.std.specs.List.{All, flat_map};
-ghost use Rattle.implicit_tiling.specs.Answer.{is_on_walk};
 ghost use Rattle.implicit_tiling.specs.Code.{word_tile};
 ghost use Rattle.implicit_tiling.specs.Steps.{root_level};
 ghost use Rattle.implicit_tileset.specs.Scene.{scene_of};
 ghost use Rattle.scene_ports.specs.Counts.{Rose};
 ghost use Rattle.tile_walk.specs.Roots.{AreRoots};
-ghost use Rattle.tile_walk.specs.Walks.{Walks, word_pair, next_roots, AreFound, EndsAtWord};
+ghost use Rattle.tile_walk.specs.Walks.{Walks, word_pair, next_roots, AreFound, IsWalked, EndsAtWord};
 
 use crate::outcome::WalkStop;
 use crate::step::step;
@@ -30,7 +29,7 @@ pub(crate) fn walk_level<S: FileSource>(
     requires roots { AreRoots layout.now (root_level layout.now level) roots.now }
     requires found { AreFound layout.now.scheme words.old.items }
     requires next { AreRoots layout.now (level + 1) next.old.items }
-    requires on_walk { IfSome (S.told files.old) (λ all. All (λ w. is_on_walk (scene_of all layout.now) region.now (word_tile layout.now.scheme w) ≡ true) roots.now) }
+    requires on_walk { IfSome (S.told files.old) (λ all. All (IsWalked (scene_of all layout.now) region.now level) roots.now) }
     ensures walks { IfSome (S.told files.old) (λ all. IfOk result (Walks (scene_of all layout.now) region.now (map (word_pair layout.now.scheme level) roots.now) words.old.items words.new.items)) }
     ensures roots { IfSome (S.told files.old) (λ all. result ≡ Ok WalkEnd.Partial → map (word_tile layout.now.scheme) next.new.items ≡ map (word_tile layout.now.scheme) next.old.items ++ flat_map (λ w. next_roots (scene_of all layout.now) region.now level (word_tile layout.now.scheme w)) roots.now) }
     ensures found { IfOk result (λ end. AreFound layout.now.scheme words.new.items) }

@@ -15,28 +15,6 @@ pub enum DecodeFault {
     Memory,
 }
 
-pub fn level_tiles(
-    subtree: &Subtree,
-    local: u32,
-    region: &Region,
-    limit: usize,
-    out: &mut Vec<Word>,
-) -> Result<bool, AllocError>
-    requires { local < subtree.now.levels }
-    ensures appended { IfOk result (λ more. out.new.items ≡ out.old.items ++ take limit (level_words subtree.now region.now local)) }
-    ensures more { IfOk result (λ more. more ≡ nat_lt limit (length (level_words subtree.now region.now local))) }
-    ensures unchanged { IfErr result (λ e. out.new.items ≡ out.old.items) }
-{
-    Err(AllocError)
-}
-
-pub fn child_roots(subtree: &Subtree, region: &Region, out: &mut Vec<Word>) -> Result<(), AllocError>
-    ensures appended { IfOk result (λ done. out.new.items ≡ out.old.items ++ child_words subtree.now region.now) }
-    ensures unchanged { IfErr result (λ e. out.new.items ≡ out.old.items) }
-{
-    Err(AllocError)
-}
-
 pub fn decode(alloc: Global, layout: &Layout, root: Tile, bytes: &[u8]) -> Result<Subtree, DecodeFault>
     requires { IsRootOf layout.now root }
     ensures { Decodes (subtree_of layout.now root bytes.now) result }

@@ -1,6 +1,6 @@
 // One local level of one subtree.
 ghost use Rattle.std.specs.Prelude.{◌≡◌, ◌+◌, ◌%◌, ◌<◌, ◌≤◌, ◌++◌, ◌∷◌, [], map, true, IfOk, IfSome, Ok, Err, length};
-ghost use Rattle.implicit_tiling.specs.Answer.{most_tiles, is_on_walk};
+ghost use Rattle.implicit_tiling.specs.Answer.{most_tiles};
 ghost use Rattle.implicit_tiling.specs.Code.{word_tile};
 ghost use Rattle.implicit_tiling.specs.Subtree.{IsSubtree};
 ghost use Rattle.implicit_tiling.specs.Steps.{root_level};
@@ -8,11 +8,11 @@ ghost use Rattle.implicit_tileset.specs.Scene.{scene_of};
 ghost use Rattle.scene_ports.specs.Counts.{Rose};
 ghost use Rattle.tile_walk.specs.Appended.{Appends};
 ghost use Rattle.tile_walk.specs.Roots.{IsRootWord, AreRoots};
-ghost use Rattle.tile_walk.specs.Walks.{Walks, word_pair, next_roots, AreFound, EndsAtWord};
+ghost use Rattle.tile_walk.specs.Walks.{Walks, word_pair, next_roots, AreFound, IsWalked, EndsAtWord};
 
 use crate::outcome::{Outcome, WalkStop, read_subtree};
-use crate::pending::{child_roots, level_tiles};
 use availability::{Subtree, WordTile, tile_of};
+use region_scan::{child_roots, level_tiles};
 use scene_ports::FileSource;
 use std::alloc::{AllocError, Global};
 use tile_coords::{Region, WalkEnd, Word};
@@ -37,7 +37,7 @@ pub(crate) fn step<S: FileSource>(
     requires root { IsRootWord layout.now (root_level layout.now level) root }
     requires found { AreFound layout.now.scheme words.old.items }
     requires next { AreRoots layout.now (level + 1) next.old.items }
-    requires on_walk { IfSome (S.told files.old) (λ all. is_on_walk (scene_of all layout.now) region.now (word_tile layout.now.scheme root) ≡ true) }
+    requires on_walk { IfSome (S.told files.old) (λ all. IsWalked (scene_of all layout.now) region.now level root) }
     ensures walks { IfSome (S.told files.old) (λ all. IfOk result (Walks (scene_of all layout.now) region.now (word_pair layout.now.scheme level root ∷ []) words.old.items words.new.items)) }
     ensures roots { IfSome (S.told files.old) (λ all. result ≡ Ok WalkEnd.Partial → map (word_tile layout.now.scheme) next.new.items ≡ map (word_tile layout.now.scheme) next.old.items ++ next_roots (scene_of all layout.now) region.now level (word_tile layout.now.scheme root)) }
     ensures found { IfOk result (λ end. AreFound layout.now.scheme words.new.items) }
