@@ -1,0 +1,6 @@
+pub mod Contents
+pub mod Tests
+pub mod Viewed
+pub mod Steps
+pub mod Whole
+pub mod Sound
