@@ -2,3 +2,4 @@ pub mod Stating
 pub mod Reading
 pub mod Words
 pub mod Steps
+pub mod Walks

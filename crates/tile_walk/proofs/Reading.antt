@@ -42,3 +42,17 @@ pub told_whole : (told : Option Files) (layout : Layout) (root : Tile) (name byt
 told_whole told layout root name bytes same r is found short bytes_are stated =
     of_told told (λ all. file name all ≡ Some bytes) (λ all. (scene_of all layout).outcome root ≡ outcome_from r)
     (λ all e. whole layout root (file (subtree_name layout root) all) bytes r (ap (λ n. file n all) (sym is) ∙ e) short (ap (subtree_of layout root) (sym bytes_are) ∙ stated)) found
+
+-- from two facts, and from three
+pub both_told : (told : Option Files) (P Q R : Files → Type 0) → ((all : Files) → P all → Q all → R all) → IfSome told P → IfSome told Q → IfSome told R
+both_told None P Q R f h k = tt
+both_told (Some all) P Q R f h k = f all h k
+
+-- the same files, told later
+pub told_same : (now told : Option Files) (P : Files → Type 0) → now ≡ told → IfSome now P → IfSome told P
+told_same now told P is h = let Q : Option Files → Type 0 = λ t. IfSome t P in subst Q is h
+
+-- a fact of any files
+pub told_always : (told : Option Files) (P : Files → Type 0) → ((all : Files) → P all) → IfSome told P
+told_always None P f = tt
+told_always (Some all) P f = f all

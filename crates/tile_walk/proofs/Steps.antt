@@ -107,7 +107,7 @@ fault_is s region level w n r same at walked is =
     let fault : fault_of (s.outcome (word_tile s.layout.scheme w)) ≡ Some n = ap (λ t. fault_of (s.outcome t)) (sym same) ∙ ap fault_of is in
     elim (cases_eq (level % s.layout.subtree_levels) 0) [
       | inl start ↦ fault_at_own_level s level (word_tile s.layout.scheme w) (omega (arith, at, start, ap (λ (t : Tile). t.level) same)) ∙ fault
-      | inr inner ↦ let none = walked.no_fault inner in let never : None {T = ℕ} ≡ Some n = sym none ∙ fault in cc
+      | inr inner ↦ let none = walked.no_fault inner in cc
     ]
 
 pub walks_fault : (s : Scene) (region : Region) (level w n : ℕ) (r : Tile) (words : List ℕ) → r ≡ word_tile s.layout.scheme w → r.level ≡ root_level s.layout level

@@ -1,4 +1,3 @@
-pub mod Pending
 pub mod Outcomes
 pub mod Roots
 pub mod Appended

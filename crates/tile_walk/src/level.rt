@@ -31,7 +31,7 @@ pub(crate) fn walk_level<S: FileSource>(
     requires next { AreRoots layout.now (level + 1) next.old.items }
     requires on_walk { IfSome (S.told files.old) (λ all. All (IsWalked (scene_of all layout.now) region.now level) roots.now) }
     ensures walks { IfSome (S.told files.old) (λ all. IfOk result (Walks (scene_of all layout.now) region.now (map (word_pair layout.now.scheme level) roots.now) words.old.items words.new.items)) }
-    ensures roots { IfSome (S.told files.old) (λ all. result ≡ Ok WalkEnd.Partial → map (word_tile layout.now.scheme) next.new.items ≡ map (word_tile layout.now.scheme) next.old.items ++ flat_map (λ w. next_roots (scene_of all layout.now) region.now level (word_tile layout.now.scheme w)) roots.now) }
+    ensures roots { IfSome (S.told files.old) (λ all. IfOk result (λ end. end ≡ WalkEnd.Partial → map (word_tile layout.now.scheme) next.new.items ≡ map (word_tile layout.now.scheme) next.old.items ++ flat_map (λ w. next_roots (scene_of all layout.now) region.now level (word_tile layout.now.scheme w)) roots.now)) }
     ensures found { IfOk result (λ end. AreFound layout.now.scheme words.new.items) }
     ensures next { IfOk result (λ end. AreRoots layout.now (level + 1) next.new.items) }
     ensures end { IfOk result (EndsAtWord layout.now.scheme) }
@@ -40,9 +40,9 @@ pub(crate) fn walk_level<S: FileSource>(
     ensures same { S.told files.new ≡ S.told files.old }
 {
     for root in roots {
-        let end = step(alloc, files, layout, region, level, *root, words, next)?;
-        if end != WalkEnd::Partial {
-            return Ok(end);
+        match step(alloc, files, layout, region, level, *root, words, next)? {
+            WalkEnd::Partial => {}
+            end => return Ok(end),
         }
     }
     Ok(WalkEnd::Partial)

@@ -4,7 +4,6 @@
 
 mod level;
 mod outcome;
-mod pending;
 mod region;
 mod step;
 

@@ -5,10 +5,11 @@ ghost use Rattle.scene_ports.specs.Counts.{Rose, one_more};
 ghost use Rattle.tile_walk.specs.Outcomes.{outcome_seen, IsOutcomeAt};
 ghost use Rattle.tile_walk.specs.Roots.{IsRootTile};
 
-use crate::pending::{DecodeFault, decode};
+
 use availability::{Subtree, axes};
 use scene_ports::{Fetch, FileSource};
 use std::alloc::{AllocError, Global};
+use subtree_file::{DecodeFault, decode};
 use tile_coords::Tile;
 use tileset_json::Layout;
 

@@ -63,11 +63,11 @@ fn walk<S: FileSource>(
     let mut roots = first_roots(alloc, layout.scheme)?;
     for level in 0..region.level + 1 {
         let mut next = Vec::new(alloc);
-        let end = walk_level(
+        match walk_level(
             alloc, files, layout, region, level, &roots, words, &mut next,
-        )?;
-        if end != WalkEnd::Partial {
-            return Ok(end);
+        )? {
+            WalkEnd::Partial => {}
+            end => return Ok(end),
         }
         if level % layout.subtree_levels + 1 == layout.subtree_levels {
             roots = next;

@@ -1,21 +1,21 @@
 // One local level of one subtree.
 ghost use Rattle.std.specs.Prelude.{◌≡◌, ◌+◌, ◌%◌, ◌<◌, ◌≤◌, ◌++◌, ◌∷◌, [], map, true, IfOk, IfSome, Ok, Err, length};
 ghost use Rattle.implicit_tiling.specs.Answer.{most_tiles};
-ghost use Rattle.implicit_tiling.specs.Code.{word_tile};
+ghost use Rattle.implicit_tiling.specs.Code.{word_level, word_tile};
 ghost use Rattle.implicit_tiling.specs.Subtree.{IsSubtree};
 ghost use Rattle.implicit_tiling.specs.Steps.{root_level};
 ghost use Rattle.implicit_tileset.specs.Scene.{scene_of};
 ghost use Rattle.scene_ports.specs.Counts.{Rose};
 ghost use Rattle.tile_walk.specs.Appended.{Appends};
-ghost use Rattle.tile_walk.specs.Roots.{IsRootWord, AreRoots};
+ghost use Rattle.tile_walk.specs.Roots.{IsRootTile, IsRootWord, AreRoots};
 ghost use Rattle.tile_walk.specs.Walks.{Walks, word_pair, next_roots, AreFound, IsWalked, EndsAtWord};
 
 use crate::outcome::{Outcome, WalkStop, read_subtree};
-use availability::{Subtree, WordTile, tile_of};
+use availability::{Subtree, tile_of};
 use region_scan::{child_roots, level_tiles};
 use scene_ports::FileSource;
 use std::alloc::{AllocError, Global};
-use tile_coords::{Region, WalkEnd, Word};
+use tile_coords::{Region, Tile, WalkEnd, Word};
 use tileset_json::Layout;
 
 // The most tiles of an answer (this project's own).
@@ -39,7 +39,7 @@ pub(crate) fn step<S: FileSource>(
     requires next { AreRoots layout.now (level + 1) next.old.items }
     requires on_walk { IfSome (S.told files.old) (λ all. IsWalked (scene_of all layout.now) region.now level root) }
     ensures walks { IfSome (S.told files.old) (λ all. IfOk result (Walks (scene_of all layout.now) region.now (word_pair layout.now.scheme level root ∷ []) words.old.items words.new.items)) }
-    ensures roots { IfSome (S.told files.old) (λ all. result ≡ Ok WalkEnd.Partial → map (word_tile layout.now.scheme) next.new.items ≡ map (word_tile layout.now.scheme) next.old.items ++ next_roots (scene_of all layout.now) region.now level (word_tile layout.now.scheme root)) }
+    ensures roots { IfSome (S.told files.old) (λ all. IfOk result (λ end. end ≡ WalkEnd.Partial → map (word_tile layout.now.scheme) next.new.items ≡ map (word_tile layout.now.scheme) next.old.items ++ next_roots (scene_of all layout.now) region.now level (word_tile layout.now.scheme root))) }
     ensures found { IfOk result (λ end. AreFound layout.now.scheme words.new.items) }
     ensures next { IfOk result (λ end. AreRoots layout.now (level + 1) next.new.items) }
     ensures end { IfOk result (EndsAtWord layout.now.scheme) }
@@ -47,16 +47,28 @@ pub(crate) fn step<S: FileSource>(
     ensures later { S.faults files.old ≤ S.faults files.new }
     ensures same { S.told files.new ≡ S.told files.old }
 {
-    let Some(WordTile { tile, .. }) = tile_of(layout.scheme, root) else {
-        unreachable!()
-    };
+    let tile = root_tile(layout, root);
     match read_subtree(alloc, files, layout, tile)? {
         Outcome::Bad(number) => Ok(WalkEnd::Fault { root, number }),
         Outcome::Good(subtree) => {
             let local = level % layout.subtree_levels;
-            Ok(append(&subtree, region, local, words, next)?)
+            let end = append(&subtree, region, local, words, next)?;
+            Ok(end)
         }
     }
+}
+
+// The tile of a root's word.
+pub(crate) fn root_tile(layout: &Layout, root: Word) -> Tile
+    requires { IsRootWord layout.now (word_level root) root }
+    ensures tile { result ≡ word_tile layout.now.scheme root }
+    ensures root { IsRootTile layout.now result }
+    ensures level { result.level ≡ word_level root }
+{
+    let Some(found) = tile_of(layout.scheme, root) else {
+        unreachable!()
+    };
+    found.tile
 }
 
 // Appends the words of a local level's tiles in the region, as far as an answer holds them, and in the last level the child
