@@ -3,3 +3,4 @@ pub mod Reading
 pub mod Words
 pub mod Steps
 pub mod Walks
+pub mod Frontier

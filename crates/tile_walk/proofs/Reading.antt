@@ -56,3 +56,7 @@ told_same now told P is h = let Q : Option Files → Type 0 = λ t. IfSome t P i
 pub told_always : (told : Option Files) (P : Files → Type 0) → ((all : Files) → P all) → IfSome told P
 told_always None P f = tt
 told_always (Some all) P f = f all
+
+pub three_told : (told : Option Files) (P Q R T : Files → Type 0) → ((all : Files) → P all → Q all → R all → T all) → IfSome told P → IfSome told Q → IfSome told R → IfSome told T
+three_told None P Q R T f h k m = tt
+three_told (Some all) P Q R T f h k m = f all h k m

@@ -3,7 +3,7 @@ use Rattle.std.specs.Prelude.{ℕ, ◌≡◌, ◌+◌, ◌%◌, ◌==◌, ◌<�
 use Rattle.implicit_tiling.specs.declared.Scheme.{Scheme}
 use Rattle.implicit_tiling.specs.Tile.{Tile}
 use Rattle.implicit_tiling.specs.Region.{Region}
-use Rattle.implicit_tiling.specs.Scene.{Scene, fault_of}
+use Rattle.implicit_tiling.specs.Scene.{Layout, Scene, fault_of}
 use Rattle.implicit_tiling.specs.Availability.{mask}
 use Rattle.implicit_tiling.specs.Code.{word, word_tile, IsWord}
 use Rattle.implicit_tiling.specs.Answer.{is_on_walk, most_tiles, answer}
@@ -59,13 +59,22 @@ Walks s region ps before after Complete = ⊥
 Walks s region ps before after TooMany = IsCut s region ps before after
 Walks s region ps before after (Fault root n) = StopsAt s region ps before after root n
 
+-- whether a level is the last one of its subtrees
+abbrev pub is_last : Layout → ℕ → Bool
+is_last layout level = level % layout.subtree_levels + 1 == layout.subtree_levels
+
 -- the roots that follow those of a level: the last level of a subtree brings the roots below
 abbrev pub if_last : Bool → List Tile → List Tile
 if_last true roots = roots
 if_last false roots = []
 
 abbrev pub next_roots : Scene → Region → ℕ → Tile → List Tile
-next_roots s region level r = if_last (level % s.layout.subtree_levels + 1 == s.layout.subtree_levels) (roots_below s region r)
+next_roots s region level r = if_last (is_last s.layout level) (roots_below s region r)
+
+-- the frontier of the next level
+abbrev pub frontier_if : Bool → List ℕ → List ℕ → List ℕ
+frontier_if true roots next = next
+frontier_if false roots next = roots
 
 -- what is known of a root when a level of its subtree is walked: it is on the walk, and below its own level its file has no fault
 pub record IsWalked (s : Scene) (region : Region) (level w : ℕ) : Type 0 where

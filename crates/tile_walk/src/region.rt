@@ -5,7 +5,7 @@ ghost use Rattle.implicit_tiling.specs.Code.{word};
 ghost use Rattle.implicit_tileset.specs.Scene.{scene_of};
 ghost use Rattle.scene_ports.specs.Counts.{Rose};
 ghost use Rattle.tile_walk.specs.Plans.{FitsLayout, IsRegionOf};
-ghost use Rattle.tile_walk.specs.Walks.{AreFound, EndsAtWord, IsAnswer};
+ghost use Rattle.tile_walk.specs.Walks.{AreFound, EndsAtWord, IsAnswer, frontier_if, is_last};
 
 use crate::level::walk_level;
 use crate::outcome::WalkStop;
@@ -69,11 +69,21 @@ fn walk<S: FileSource>(
             WalkEnd::Partial => {}
             end => return Ok(end),
         }
-        if level % layout.subtree_levels + 1 == layout.subtree_levels {
-            roots = next;
-        }
+        roots = frontier(layout, level, roots, next);
     }
     Ok(WalkEnd::Complete)
+}
+
+// The frontier of the level after this one: the roots that were found, where it begins new subtrees.
+fn frontier(layout: &Layout, level: u32, roots: Vec<Word>, next: Vec<Word>) -> Vec<Word>
+    ensures { result.items ≡ frontier_if (is_last layout.now level) roots.items next.items }
+{
+    let levels = layout.subtree_levels;
+    if level % levels + 1 == levels {
+        next
+    } else {
+        roots
+    }
 }
 
 // The frontier of level 0: the root alone.
