@@ -1,5 +1,5 @@
 -- The roots that are reached, level by level.
-use Rattle.std.proofs.Common.{◌≡◌, ℕ, zero, suc, ◌+◌, ◌-◌, ◌*◌, ◌/◌, ◌%◌, ◌<◌, ◌≤◌, true, false, List, [], ◌++◌, sym, ap, subst, ◌∙◌, arith, inl, inr, zero-add, append-nil}
+use Rattle.std.proofs.Common.{◌≡◌, ℕ, zero, suc, ◌+◌, ◌-◌, ◌*◌, ◌/◌, ◌%◌, ◌<◌, ◌≤◌, true, false, [], ◌++◌, sym, ap, subst, ◌∙◌, arith, inl, inr, zero-add, append-nil}
 use Rattle.std.specs.Prelude.{◌&&◌, ◌||◌, ◌==◌, nat_lt, filter}
 use Rattle.std.specs.List.{flat_map, range_with_len}
 use Rattle.std.proofs.Math.Nat.{div-add-mod}
@@ -15,7 +15,7 @@ use Rattle.implicit_tiling.specs.Checked.{reached_roots}
 use Rattle.implicit_tiling.specs.Steps.{root_level, walk_roots}
 use Rattle.tiling_laws.proofs.TileAt.{tile_at_is_tile, tile_at_level}
 use Rattle.walk_laws.specs.Children.{roots_below}
-use Rattle.walk_laws.specs.Frontiers.{whole_of, reached_above}
+use Rattle.walk_laws.specs.Frontiers.{whole_of, reached_above, reached_at}
 use Rattle.walk_laws.proofs.Lists.{filter_same, filter_none, filter-flat_map, flat_map_none, of_range, range-append}
 use Rattle.walk_laws.proofs.Runs.{of_level}
 use Rattle.walk_laws.proofs.Segments.{local_of}
@@ -35,17 +35,13 @@ reached_is_on_the_whole_walk s t tile =
     same_test (is_on_walk s (whole_of s) t) (is_reached s t) (λ on. (and_parts (is_reached s t) (is_in (whole_of s) t) on).0)
     (λ reached. and_from (is_reached s t) (is_in (whole_of s) t) reached (whole_has_each_tile s.layout.scheme s.layout.levels t tile (reached_level s t reached)))
 
--- the roots that are reached at a level
-abbrev pub reached_at : Scene → ℕ → List Tile
-reached_at s l = filter (is_reached s) (tiles_of_level s.layout.scheme l)
-
 reached_walk : (s : Scene) (l : ℕ) → reached_at s l ≡ filter (is_on_walk s (whole_of s)) (tiles_of_level s.layout.scheme l)
 reached_walk s l =
     filter_same (is_reached s) (is_on_walk s (whole_of s)) (tiles_of_level s.layout.scheme l)
     (of_level (λ t. is_reached s t ≡ is_on_walk s (whole_of s) t) s.layout.scheme l
     (λ i h. sym (reached_is_on_the_whole_walk s (tile_at s.layout.scheme l i) (tile_at_is_tile s.layout.scheme l i))))
 
-reached_at_start : (s : Scene) (l : ℕ) → l % s.layout.subtree_levels ≡ 0 → reached_at s l ≡ walk_roots s (whole_of s) l
+pub reached_at_start : (s : Scene) (l : ℕ) → l % s.layout.subtree_levels ≡ 0 → reached_at s l ≡ walk_roots s (whole_of s) l
 reached_at_start s l start = reached_walk s l ∙ roots_of_start s (whole_of s) l start
 
 reached_at_inner : (s : Scene) (l : ℕ) → (l % s.layout.subtree_levels ≡ 0 → ⊥) → reached_at s l ≡ []
@@ -55,7 +51,7 @@ pub reached_by_level : (s : Scene) (l : ℕ) → reached_above s l ≡ flat_map 
 reached_by_level s l = filter-flat_map (is_reached s) (tiles_of_level s.layout.scheme) (range_with_len 0 l)
 
 -- n levels more
-reached_more : (s : Scene) (l n : ℕ) → reached_above s (l + n) ≡ reached_above s l ++ flat_map (reached_at s) (range_with_len l n)
+pub reached_more : (s : Scene) (l n : ℕ) → reached_above s (l + n) ≡ reached_above s l ++ flat_map (reached_at s) (range_with_len l n)
 reached_more s l n =
     let f = reached_at s in
     reached_by_level s (l + n) ∙ ap (flat_map f) (range-append 0 l n)
@@ -70,7 +66,7 @@ reached_same s l n none =
     ∙ ap (λ w. reached_above s l ++ w) (flat_map_none (reached_at s) (range_with_len l n) (of_range (λ m. reached_at s m ≡ []) l n none))
     ∙ append-nil (reached_above s l)
 
-inner_level : (l m levels : ℕ) → l % levels ≡ 0 → l < m → m < l + levels → m % levels ≡ 0 → ⊥
+pub inner_level : (l m levels : ℕ) → l % levels ≡ 0 → l < m → m < l + levels → m % levels ≡ 0 → ⊥
 inner_level l m levels start low high is =
     let local : m % levels ≡ m - l = ap (λ w. w % levels) (omega arith) ∙ local_of l (m - l) levels start (omega arith) in
     omega (arith, local)

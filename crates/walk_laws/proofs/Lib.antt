@@ -14,3 +14,6 @@ pub mod Frontiers
 pub mod Pairs
 pub mod PairAnswers
 pub mod WalkRoots
+pub mod PairLevels
+pub mod Checked
+mod Rows

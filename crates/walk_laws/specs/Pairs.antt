@@ -1,11 +1,13 @@
 -- The pairs of a walk, level by level, and its answer and steps by the pairs that are done (this project's own).
-use Rattle.std.specs.Prelude.{ℕ, ◌≡◌, ◌+◌, ◌-◌, ◌%◌, ◌<◌, ◌≤◌, List, [], ◌∷◌, ◌++◌, Some, None, length, take, map}
+use Rattle.std.specs.Prelude.{ℕ, ◌≡◌, ◌+◌, ◌-◌, ◌%◌, ◌<◌, ◌≤◌, ◌&&◌, List, [], ◌∷◌, ◌++◌, Some, None, length, take, map, filter}
 use Rattle.std.specs.List.{flat_map, range_with_len, All}
-use Rattle.implicit_tiling.specs.Tile.{Tile}
-use Rattle.implicit_tiling.specs.Region.{Region}
+use Rattle.implicit_tiling.specs.Tile.{Tile, tiles_of_level}
+use Rattle.implicit_tiling.specs.Region.{Region, is_in}
 use Rattle.implicit_tiling.specs.Scene.{Scene}
+use Rattle.implicit_tiling.specs.Availability.{is_available}
 use Rattle.implicit_tiling.specs.Answer.{complete, too_many, fault, most_tiles, answer}
 use Rattle.implicit_tiling.specs.Steps.{Pair, pair_of, walk_roots, pairs, segment, pair_fault, partial, Step, steps, steps_from}
+use Rattle.walk_laws.specs.Faults.{NoFaults, NoFaultsAbove}
 
 -- the pairs of a level, and those of the levels above it
 abbrev pub level_pairs : Scene → Region → ℕ → List Pair
@@ -21,15 +23,36 @@ NoPairFaults s ps = All (λ p. pair_fault s p ≡ None) ps
 abbrev pub tiles_of_pairs : Scene → Region → List Pair → List Tile
 tiles_of_pairs s region ps = flat_map (segment s region) ps
 
--- the pairs above a level are followed by those of that level, and above the level after the region's they are all
+-- the pairs above a level are followed by those of that level
 abbrev pub PairsGoDown : Type 0
 PairsGoDown = (s : Scene) (region : Region) (l : ℕ) → pairs_above s region (l + 1) ≡ pairs_above s region l ++ level_pairs s region l
 
--- those above a level come first, and are all where no roots follow
+-- those above a level come first
 abbrev pub PairsAboveComeFirst : Type 0
 PairsAboveComeFirst = (s : Scene) (region : Region) (l : ℕ) → l ≤ region.level + 1
     → pairs s region ≡ pairs_above s region l ++ flat_map (level_pairs s region) (range_with_len l (region.level + 1 - l))
 
+-- a root of a level in the midst of the pairs
+abbrev pub PairsAtARoot : Type 0
+PairsAtARoot = (s : Scene) (region : Region) (l : ℕ) (before : List Tile) (r : Tile) (after : List Tile) → l ≤ region.level
+    → walk_roots s region l ≡ before ++ r ∷ after
+    → pairs s region ≡ (pairs_above s region l ++ map (pair_of l) before) ++ pair_of l r ∷ (map (pair_of l) after ++ flat_map (level_pairs s region) (range_with_len (l + 1) (region.level - l)))
+
+-- the tiles of the pairs above a level are the available tiles of the region there
+abbrev pub TilesAboveALevel : Type 0
+TilesAboveALevel = (s : Scene) (region : Region) (l : ℕ) → 1 ≤ s.layout.subtree_levels
+    → tiles_of_pairs s region (pairs_above s region l)
+    ≡ filter (λ t. is_in region t && is_available s t) (flat_map (tiles_of_level s.layout.scheme) (range_with_len 0 l))
+
+-- where no root above a level has a fault, no pair there tells one; and one subtree more is without a fault where its roots are
+abbrev pub NoFaultsAboveTellNone : Type 0
+NoFaultsAboveTellNone = (s : Scene) (region : Region) (l : ℕ) → NoFaultsAbove s region l → NoPairFaults s (pairs_above s region l)
+
+abbrev pub NoFaultsGoDown : Type 0
+NoFaultsGoDown = (s : Scene) (region : Region) (l k : ℕ) → l % s.layout.subtree_levels ≡ 0 → k ≤ s.layout.subtree_levels
+    → NoFaultsAbove s region l → NoFaults s (walk_roots s region l) → NoFaultsAbove s region (l + k)
+
+-- the pairs above a level where no roots follow are all
 abbrev pub PairsEnd : Type 0
 PairsEnd = (s : Scene) (region : Region) (l : ℕ) → 1 ≤ s.layout.subtree_levels → l ≤ region.level + 1 → l % s.layout.subtree_levels ≡ 0
     → walk_roots s region l ≡ [] → pairs_above s region l ≡ pairs s region

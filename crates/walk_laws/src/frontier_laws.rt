@@ -1,6 +1,7 @@
 // Laws of the subtree roots that are reached, level by level (this project's own).
 ghost use Rattle.walk_laws.specs.Regions.{WholeIsARegion, WholeHasEachTile};
 ghost use Rattle.walk_laws.specs.Frontiers.{ReachedIsOnTheWholeWalk, ReachedGoDown, ReachedAreAll, ReachedEnd, RootsEnd};
+ghost use Rattle.walk_laws.specs.Frontiers.{ReachedAtARoot, CheckedIsAll, CheckedIsCut};
 
 /// The region of the last level with its whole box is a region.
 pub fn the_whole_is_a_region()
@@ -35,4 +36,19 @@ pub fn reached_roots_end()
 /// After a level without roots no further roots are on a walk.
 pub fn roots_on_the_walk_end()
     ensures { RootsEnd }
+{}
+
+/// A root on the walk of the whole region stands, among all that are reached, after those above its level and those before it.
+pub fn a_root_is_in_the_midst_of_reached_roots()
+    ensures { ReachedAtARoot }
+{}
+
+/// A check looks at all roots that are reached where they are few enough.
+pub fn a_check_looks_at_all_roots()
+    ensures { CheckedIsAll }
+{}
+
+/// A check that has looked at as many roots as it may, and before which another root stands, is cut there.
+pub fn a_check_is_cut()
+    ensures { CheckedIsCut }
 {}
