@@ -1,8 +1,8 @@
 -- The frontier of a walk, from level to level.
-use Rattle.std.proofs.Common.{◌≡◌, ◌≢◌, ℕ, ◌+◌, ◌-◌, ◌%◌, ◌<◌, ◌≤◌, Bool, true, false, List, [], ◌∷◌, ◌++◌, length, map, get_or, Some, None, refl, sym, ap, subst, ◌∙◌, arith, lit<, inl, inr}
-use Rattle.std.specs.Prelude.{◌==◌, filter}
+use Rattle.std.proofs.Common.{◌≡◌, ◌≢◌, ℕ, ◌+◌, ◌%◌, ◌<◌, ◌≤◌, Bool, true, false, List, [], ◌∷◌, ◌++◌, length, map, get_or, None, refl, sym, ap, subst, ◌∙◌, arith, lit<, inl, inr}
+use Rattle.std.specs.Prelude.{filter}
 use Rattle.std.specs.List.{flat_map, All}
-use Rattle.std.proofs.Math.Nat.{zero-mod, div-add-mod}
+use Rattle.std.proofs.Math.Nat.{zero-mod}
 use Rattle.std.proofs.lemmas.Nat.{mod_below}
 use Rattle.std.proofs.lemmas.List.{get_or-map, length-map}
 use Rattle.std.proofs.lemmas.Bool.{eqb-true, eqb-false, cases_eq}
@@ -21,7 +21,7 @@ use Rattle.availability.proofs.Tiles.{words_have_their_parts}
 use Rattle.tiling_laws.proofs.TileAt.{tile_at_level}
 use Rattle.walk_laws.specs.Children.{roots_below}
 use Rattle.walk_laws.specs.Regions.{IsRegion}
-use Rattle.walk_laws.specs.Pairs.{NoPairFaults, pairs_above}
+use Rattle.walk_laws.specs.Pairs.{pairs_above}
 use Rattle.walk_laws.proofs.Lists.{flat_map_same, flat_map-map}
 use Rattle.walk_laws.proofs.Segments.{local_low, at_start, local_of}
 use Rattle.walk_laws.proofs.Children.{roots_go_down, next_level}
@@ -29,7 +29,7 @@ use Rattle.walk_laws.proofs.Pairs.{fault_at_own_level, roots_of_inner_levels}
 use Rattle.walk_laws.proofs.Regions.{roots_begin_at_the_root}
 use Rattle.tile_coords.specs.declared.walk_end.WalkEnd.TheVariants.{Partial}
 use Rattle.tile_walk.specs.Roots.{IsRootWord, AreRoots}
-use Rattle.tile_walk.specs.Walks.{word_pair, Walks, GoesOn, next_roots, if_last, is_last, frontier_if, IsWalked}
+use Rattle.tile_walk.specs.Walks.{word_pair, GoesOn, next_roots, if_last, is_last, frontier_if, IsWalked}
 use Rattle.tile_walk.proofs.Words.{tile_of_word}
 use Rattle.tile_walk.proofs.Walks.{one_level_more}
 

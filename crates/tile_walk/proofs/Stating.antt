@@ -1,12 +1,12 @@
 -- The subtree that the bytes of a file state has the root that it was asked for.
-use Rattle.std.proofs.Common.{◌≡◌, ℕ, Bool, true, false, List, Option, Some, None, Result, Ok, Err, refl, sym, ap, ◌∙◌}
+use Rattle.std.proofs.Common.{◌≡◌, ℕ, Bool, true, false, List, Option, Some, None, Result, Ok, Err, refl, ap, ◌∙◌}
 use Rattle.std.specs.List.{list_any}
 use Rattle.implicit_tiling.specs.Checks.{need, refuse}
 use Rattle.implicit_tiling.specs.Tile.{Tile}
 use Rattle.implicit_tiling.specs.Scene.{Layout}
 use Rattle.implicit_tiling.specs.Subtree.{Subtree, has_orphan, has_content_alone}
-use Rattle.implicit_tileset.specs.Record.{Availability, SubtreeRecord, record_of}
-use Rattle.implicit_tileset.specs.SubtreeFile.{parts_of, Used, Held, wanted_contents, used_of, subtree_from, subtree_checked, subtree_held, subtree_recorded, subtree_of, and_then, names_no_view, is_external, is_out, is_short, is_miscounted}
+use Rattle.implicit_tileset.specs.Record.{Availability, record_of}
+use Rattle.implicit_tileset.specs.SubtreeFile.{parts_of, Used, Held, wanted_contents, used_of, subtree_from, subtree_held, subtree_recorded, subtree_of, and_then, names_no_view, is_external, is_out, is_short, is_miscounted}
 
 -- a row that was passed
 passed : {B : Type 0} (number : ℕ) (test : Bool) (rest : Result B ℕ) (b : B) → refuse number test rest ≡ Ok b → rest ≡ Ok b

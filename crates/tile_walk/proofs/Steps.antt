@@ -1,27 +1,26 @@
 -- One step of a walk, by what is read of its root.
-use Rattle.std.proofs.Common.{◌≡◌, ℕ, ◌+◌, ◌-◌, ◌%◌, ◌<◌, ◌≤◌, Bool, true, false, List, [], ◌∷◌, ◌++◌, length, map, take, get_or, Option, Some, None, refl, sym, ap, subst, ◌∙◌, arith, append-nil, length-append, inl, inr}
+use Rattle.std.proofs.Common.{◌≡◌, ℕ, ◌+◌, ◌-◌, ◌%◌, ◌<◌, ◌≤◌, Bool, true, false, List, [], ◌∷◌, ◌++◌, length, map, take, get_or, Some, None, refl, sym, ap, subst, ◌∙◌, arith, append-nil, length-append, inl, inr}
 use Rattle.std.proofs.lemmas.Bool.{cases_eq}
 use Rattle.std.specs.Prelude.{◌==◌}
-use Rattle.std.specs.List.{All}
-use Rattle.std.proofs.lemmas.List.{length-take, map-append, take_all}
+use Rattle.std.proofs.lemmas.List.{length-take, map-append}
 use Rattle.std.proofs.Math.Seq.{take-append-add}
 use Rattle.std.proofs.lemmas.Bool.{eqb-true, and_parts}
-use Rattle.std.proofs.lemmas.List.Elements.{All-append, All-take, All-nil, All-cons, All-weaker}
+use Rattle.std.proofs.lemmas.List.Elements.{All-append, All-take, All-nil, All-cons}
 use Rattle.implicit_tiling.specs.declared.Scheme.{Scheme}
-use Rattle.implicit_tiling.specs.Tile.{Tile, IsTile}
+use Rattle.implicit_tiling.specs.Tile.{Tile}
 use Rattle.implicit_tiling.specs.Region.{Region, is_in}
-use Rattle.implicit_tiling.specs.Scene.{Layout, Scene, good, bad, fault_of, Outcome}
+use Rattle.implicit_tiling.specs.Scene.{Layout, Scene, good, bad, fault_of}
 use Rattle.implicit_tiling.specs.Availability.{is_reached}
-use Rattle.implicit_tiling.specs.Answer.{most_tiles, is_on_walk}
-use Rattle.implicit_tiling.specs.Subtree.{Subtree, IsSubtree, IsOf, has_orphan, bits_of}
-use Rattle.implicit_tiling.specs.Code.{word_tile, word_level, IsWord}
+use Rattle.implicit_tiling.specs.Answer.{most_tiles}
+use Rattle.implicit_tiling.specs.Subtree.{Subtree, IsSubtree, IsOf, bits_of}
+use Rattle.implicit_tiling.specs.Code.{word_tile, IsWord}
 use Rattle.implicit_tiling.specs.Nodes.{level_words, child_words}
-use Rattle.implicit_tiling.specs.Steps.{Pair, pair_of, segment, root_level, pair_fault}
+use Rattle.implicit_tiling.specs.Steps.{pair_of, segment, root_level, pair_fault}
 use Rattle.region_scan.specs.NodeLaws.{IsNodeWord}
 use Rattle.region_scan.proofs.NodeWords.{found_words_are_words}
 use Rattle.walk_laws.specs.Decoded.{IsDecoded}
 use Rattle.walk_laws.specs.Children.{roots_below}
-use Rattle.walk_laws.specs.Pairs.{NoPairFaults, tiles_of_pairs}
+use Rattle.walk_laws.specs.Pairs.{NoPairFaults}
 use Rattle.walk_laws.proofs.Decoded.{node_words}
 use Rattle.walk_laws.proofs.Children.{next_level}
 use Rattle.walk_laws.proofs.Segments.{local_low}
@@ -55,7 +54,7 @@ found_after layout st region local before after roots next TooMany limits of is 
     let some = take (most_tiles - length before) (level_words st region local) in
     record {
       are_words = subst P (sym is.words) (All-append (IsWord layout.scheme) before some found.are_words
-        (All-take (IsWord layout.scheme) (most_tiles - length before) (level_words st region local) (level_are_words layout st region local limits of)));
+          (All-take (IsWord layout.scheme) (most_tiles - length before) (level_words st region local) (level_are_words layout st region local limits of)));
       few = omega (arith, found.few, ap (length {A = ℕ}) is.words, length-append before some, length-take (most_tiles - length before) (level_words st region local));
     }
 found_after layout st region local before after roots next (Fault root n) limits of is found = absurd is
@@ -69,7 +68,7 @@ child_is_root layout st region level w of some next is = record {
   at_level = is.level ∙ next;
   below = omega (arith, is.below_cut, is.level, next, of.same_cut);
   at_start = let whole : st.root.level + layout.subtree_levels ≡ level + 1 = omega (arith, of.same_levels, next) in
-    ap (λ l. l % layout.subtree_levels) (sym whole) ∙ next_level st.root.level layout.subtree_levels some of.root_at_start;
+      ap (λ l. l % layout.subtree_levels) (sym whole) ∙ next_level st.root.level layout.subtree_levels some of.root_at_start;
 }
 
 roots_if : (layout : Layout) (st : Subtree) (region : Region) (level : ℕ) (last : Bool) → IsSubtree st → IsOf layout st → 1 ≤ layout.subtree_levels

@@ -1,5 +1,5 @@
 -- What is read of the file of a subtree root (this project's own).
-use Rattle.std.specs.Prelude.{ℕ, ◌≡◌, ◌≤◌, false, Result, Ok, Err}
+use Rattle.std.specs.Prelude.{◌≡◌, ◌≤◌, false}
 use Rattle.implicit_tiling.specs.Tile.{Tile}
 use Rattle.implicit_tiling.specs.Scene.{Layout, good, bad, Outcome as outcome}
 use Rattle.implicit_tiling.specs.Subtree.{Subtree, IsOf, has_orphan, bits_of}

@@ -7,5 +7,5 @@ mod outcome;
 mod region;
 mod step;
 
-pub use region::fresh;
 pub use outcome::{Outcome, WalkStop, read_subtree};
+pub use region::fresh;

@@ -5,7 +5,6 @@ ghost use Rattle.scene_ports.specs.Counts.{Rose, one_more};
 ghost use Rattle.tile_walk.specs.Outcomes.{outcome_seen, IsOutcomeAt};
 ghost use Rattle.tile_walk.specs.Roots.{IsRootTile};
 
-
 use availability::{Subtree, axes};
 use scene_ports::{Fetch, FileSource};
 use std::alloc::{AllocError, Global};
@@ -15,7 +14,9 @@ use tileset_json::Layout;
 
 // The most bytes of a subtree file, and the faults of files that aren't read (this project's own).
 const MOST_BYTES: usize = 16777216;
+
 const MISSING: u64 = 1;
+
 const TOO_LONG: u64 = 2;
 
 /// What the file of a subtree root holds.

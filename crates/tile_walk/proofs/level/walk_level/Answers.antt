@@ -1,4 +1,4 @@
-use Rattle.std.proofs.Common.{◌≡◌, ◌≢◌, ◌≤◌, ◌+◌, ◌++◌, ◌∷◌, [], List, ℕ, ◌∙◌, map, take, take_all, get_or, ap, sym, subst, arith}
+use Rattle.std.proofs.Common.{◌≡◌, ◌+◌, ◌++◌, ◌∷◌, [], ◌∙◌, map, take, take_all, get_or, ap, subst, arith}
 use Rattle.std.specs.List.{flat_map}
 use Rattle.implicit_tiling.specs.Code.{word_tile}
 use Rattle.implicit_tileset.specs.Scene.{scene_of}
@@ -17,21 +17,21 @@ loop-root-preserved g c =
     let root = get_or c.args.roots.now c.loop-root.root-index 0 in
     record {
       walks = both_told (g.S.FileSource.told c.args.files.now)
-        (λ all. GoesOn (scene_of all layout) region (map pair (take c.loop-root.root-index c.args.roots.now)) c.args.words.now.items c.loop-root.words.items)
-        (λ all. Walks (scene_of all layout) region (pair root ∷ []) c.loop-root.words.items c.step.new.words.items c.in_ok-end.end) _
-        (λ all on is. let P : WalkEnd → Type 0 = Walks (scene_of all layout) region (map pair (take (c.loop-root.root-index + 1) c.args.roots.now)) c.args.words.now.items c.step.new.words.items in
-        subst P c.in-Partial.is
-        (one_root_more (scene_of all layout) region pair c.args.roots.now c.loop-root.root-index c.args.words.now.items c.loop-root.words.items c.step.new.words.items c.in_ok-end.end
-        (omega arith) on is)) c.loop-root.invariant.walks
-        (told_same (g.S.FileSource.told c.loop-root.files) (g.S.FileSource.told c.args.files.now) _ c.loop-root.invariant.same c.in_ok-end.ensures.walks);
+          (λ all. GoesOn (scene_of all layout) region (map pair (take c.loop-root.root-index c.args.roots.now)) c.args.words.now.items c.loop-root.words.items)
+          (λ all. Walks (scene_of all layout) region (pair root ∷ []) c.loop-root.words.items c.step.new.words.items c.in_ok-end.end) _
+          (λ all on is. let P : WalkEnd → Type 0 = Walks (scene_of all layout) region (map pair (take (c.loop-root.root-index + 1) c.args.roots.now)) c.args.words.now.items c.step.new.words.items in
+          subst P c.in-Partial.is
+          (one_root_more (scene_of all layout) region pair c.args.roots.now c.loop-root.root-index c.args.words.now.items c.loop-root.words.items c.step.new.words.items c.in_ok-end.end
+          (omega arith) on is)) c.loop-root.invariant.walks
+          (told_same (g.S.FileSource.told c.loop-root.files) (g.S.FileSource.told c.args.files.now) _ c.loop-root.invariant.same c.in_ok-end.ensures.walks);
       roots_on = both_told (g.S.FileSource.told c.args.files.now)
-        (λ all. map (word_tile layout.scheme) c.loop-root.next.items ≡ map (word_tile layout.scheme) c.args.next.now.items
+          (λ all. map (word_tile layout.scheme) c.loop-root.next.items ≡ map (word_tile layout.scheme) c.args.next.now.items
           ++ flat_map (λ w. next_roots (scene_of all layout) region c.args.level (word_tile layout.scheme w)) (take c.loop-root.root-index c.args.roots.now))
-        (λ all. c.in_ok-end.end ≡ Partial → map (word_tile layout.scheme) c.step.new.next.items ≡ map (word_tile layout.scheme) c.loop-root.next.items
+          (λ all. c.in_ok-end.end ≡ Partial → map (word_tile layout.scheme) c.step.new.next.items ≡ map (word_tile layout.scheme) c.loop-root.next.items
           ++ next_roots (scene_of all layout) region c.args.level (word_tile layout.scheme root)) _
-        (λ all on more. one_next_more (word_tile layout.scheme) (λ w. next_roots (scene_of all layout) region c.args.level (word_tile layout.scheme w)) c.args.roots.now
-        c.args.next.now.items c.loop-root.next.items c.step.new.next.items c.loop-root.root-index (omega arith) on (more c.in-Partial.is)) c.loop-root.invariant.roots_on
-        (told_same (g.S.FileSource.told c.loop-root.files) (g.S.FileSource.told c.args.files.now) _ c.loop-root.invariant.same c.in_ok-end.ensures.roots);
+          (λ all on more. one_next_more (word_tile layout.scheme) (λ w. next_roots (scene_of all layout) region c.args.level (word_tile layout.scheme w)) c.args.roots.now
+          c.args.next.now.items c.loop-root.next.items c.step.new.next.items c.loop-root.root-index (omega arith) on (more c.in-Partial.is)) c.loop-root.invariant.roots_on
+          (told_same (g.S.FileSource.told c.loop-root.files) (g.S.FileSource.told c.args.files.now) _ c.loop-root.invariant.same c.in_ok-end.ensures.roots);
       found = c.in_ok-end.ensures.found;
       next = c.in_ok-end.ensures.next;
       later = omega (arith, c.loop-root.invariant.later, c.step.ensures.later);

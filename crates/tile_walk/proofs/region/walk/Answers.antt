@@ -1,16 +1,16 @@
-use Rattle.std.proofs.Common.{◌≡◌, ◌≢◌, ◌≤◌, ◌+◌, ◌++◌, ◌∷◌, [], List, ℕ, ◌∙◌, map, length, refl, ap, sym, subst, arith}
+use Rattle.std.proofs.Common.{◌≡◌, ◌≤◌, ◌+◌, ◌++◌, [], List, ℕ, ◌∙◌, map, length, refl, ap, sym, subst, arith}
 use Rattle.std.specs.List.{flat_map, All}
 use Rattle.std.proofs.lemmas.List.Elements.{All-nil}
 use Rattle.implicit_tiling.specs.Code.{word_tile, IsWord}
 use Rattle.implicit_tiling.specs.Region.{Region}
 use Rattle.implicit_tiling.specs.Scene.{Layout}
-use Rattle.implicit_tiling.specs.Steps.{root_level, pairs}
+use Rattle.implicit_tiling.specs.Steps.{root_level}
 use Rattle.implicit_tileset.specs.Scene.{scene_of}
 use Rattle.walk_laws.specs.Pairs.{pairs_above}
 use Rattle.tile_coords.specs.declared.walk_end.WalkEnd.{WalkEnd}
-use Rattle.tile_coords.specs.declared.walk_end.WalkEnd.TheVariants.{Partial, Complete}
+use Rattle.tile_coords.specs.declared.walk_end.WalkEnd.TheVariants.{Partial}
 use Rattle.tile_walk.specs.Roots.{AreRoots, AreWords}
-use Rattle.tile_walk.specs.Walks.{GoesOn, Walks, word_pair, next_roots, is_last, IsWalked, IsAnswer}
+use Rattle.tile_walk.specs.Walks.{GoesOn, Walks, word_pair, next_roots, is_last, IsWalked}
 use Rattle.tile_walk.proofs.Reading.{both_told, three_told, of_told, told_same, told_always}
 use Rattle.tile_walk.proofs.Walks.{one_level_more, answer_at_level, complete_answer}
 use Rattle.tile_walk.proofs.Frontier.{IsAt, begins, first_roots_are, roots_if_next, is_at_next}
@@ -27,8 +27,8 @@ loop-level-init g c =
     let first : 0 ≡ root_level layout 0 = omega arith in
     record {
       at = told_always (g.S.FileSource.told c.args.files.now) (λ all. IsAt (scene_of all layout) c.args.region.now 0 c.in_ok-roots.roots.items c.args.words.now.items)
-        (λ all. begins (scene_of all layout) c.args.region.now c.layout.inside.scheme c.in_ok-roots.roots.items c.args.words.now.items scheme some c.requires.region.is_region
-        c.in_ok-roots.ensures c.requires.empty);
+          (λ all. begins (scene_of all layout) c.args.region.now c.layout.inside.scheme c.in_ok-roots.roots.items c.args.words.now.items scheme some c.requires.region.is_region
+          c.in_ok-roots.ensures c.requires.empty);
       roots_are = subst P first (first_roots_are layout c.layout.inside.scheme c.in_ok-roots.roots.items scheme some c.in_ok-roots.ensures);
       found = record { are_words = subst W (sym c.requires.empty) (All-nil (IsWord layout.scheme)); few = omega (arith, ap (length {A = ℕ}) c.requires.empty) };
       later = omega arith;
@@ -81,19 +81,19 @@ loop-level-preserved g c =
     let some : 1 ≤ layout.subtree_levels = omega (arith, levels, c.layout.invariant.some_subtree_levels) in
     record {
       at = three_told (g.S.FileSource.told c.args.files.now) (λ all. IsAt (scene_of all layout) region level roots words)
-        (λ all. Walks (scene_of all layout) region (map (word_pair layout.scheme level) c.deref.result.now) words after c.in_ok-end.end)
-        (λ all. c.in_ok-end.end ≡ Partial → map (word_tile layout.scheme) next ≡ map (word_tile layout.scheme) c.new-next.result.items
+          (λ all. Walks (scene_of all layout) region (map (word_pair layout.scheme level) c.deref.result.now) words after c.in_ok-end.end)
+          (λ all. c.in_ok-end.end ≡ Partial → map (word_tile layout.scheme) next ≡ map (word_tile layout.scheme) c.new-next.result.items
           ++ flat_map (λ w. next_roots (scene_of all layout) region level (word_tile layout.scheme w)) c.deref.result.now) _
-        (λ all at is found. let s = scene_of all layout in
-        let P : WalkEnd → Type 0 = Walks s region (map (word_pair layout.scheme level) c.deref.result.now) words after in
-        let Q : List ℕ → Type 0 = λ ws. GoesOn s region (map (word_pair layout.scheme level) ws) words after in
-        let same = c.deref.ensures.value in
-        let rest = λ (ws : List ℕ). map (word_tile layout.scheme) c.new-next.result.items ++ flat_map (λ w. next_roots s region level (word_tile layout.scheme w)) ws in
-        is_at_next s region level (is_last layout level) roots next c.frontier-roots.result.items c.new-next.result.items words after some refl c.loop-level.invariant.roots_are at
-        (subst Q same (subst P c.in-Partial.is is)) c.new-next.ensures.items (found c.in-Partial.is ∙ ap rest same) c.frontier-roots.ensures)
-        c.loop-level.invariant.at
-        (told_same (g.S.FileSource.told c.loop-level.files) (g.S.FileSource.told c.args.files.now) _ c.loop-level.invariant.same c.in_ok-end.ensures.walks)
-        (told_same (g.S.FileSource.told c.loop-level.files) (g.S.FileSource.told c.args.files.now) _ c.loop-level.invariant.same c.in_ok-end.ensures.roots);
+          (λ all at is found. let s = scene_of all layout in
+          let P : WalkEnd → Type 0 = Walks s region (map (word_pair layout.scheme level) c.deref.result.now) words after in
+          let Q : List ℕ → Type 0 = λ ws. GoesOn s region (map (word_pair layout.scheme level) ws) words after in
+          let same = c.deref.ensures.value in
+          let rest = λ (ws : List ℕ). map (word_tile layout.scheme) c.new-next.result.items ++ flat_map (λ w. next_roots s region level (word_tile layout.scheme w)) ws in
+          is_at_next s region level (is_last layout level) roots next c.frontier-roots.result.items c.new-next.result.items words after some refl c.loop-level.invariant.roots_are at
+          (subst Q same (subst P c.in-Partial.is is)) c.new-next.ensures.items (found c.in-Partial.is ∙ ap rest same) c.frontier-roots.ensures)
+          c.loop-level.invariant.at
+          (told_same (g.S.FileSource.told c.loop-level.files) (g.S.FileSource.told c.args.files.now) _ c.loop-level.invariant.same c.in_ok-end.ensures.walks)
+          (told_same (g.S.FileSource.told c.loop-level.files) (g.S.FileSource.told c.args.files.now) _ c.loop-level.invariant.same c.in_ok-end.ensures.roots);
       roots_are = roots_if_next layout level (is_last layout level) roots next c.frontier-roots.result.items some refl c.loop-level.invariant.roots_are c.in_ok-end.ensures.next c.frontier-roots.ensures;
       found = c.in_ok-end.ensures.found;
       later = omega (arith, c.loop-level.invariant.later, c.walk_level.ensures.later);

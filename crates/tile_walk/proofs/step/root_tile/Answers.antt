@@ -1,4 +1,4 @@
-use Rattle.std.proofs.Common.{◌≡◌, ◌%◌, ◌∙◌, ap, sym, arith, subst}
+use Rattle.std.proofs.Common.{◌%◌, ◌∙◌, ap, arith, subst}
 use Rattle.implicit_tiling.specs.declared.Scheme.{Scheme}
 use Rattle.implicit_tiling.specs.Tile.{Tile, IsTile}
 use Rattle.implicit_tiling.specs.Scene.{Layout}
