@@ -1,5 +1,5 @@
 -- Fields one by one.
-use Rattle.std.proofs.Common.{◌≡◌, ℕ, List, [], ◌∷◌, ◌++◌, sym, ap, ◌∙◌, append-nil, append_assoc}
+use Rattle.std.proofs.Common.{◌+◌, length, refl, arith, length-append, ◌≡◌, ℕ, List, [], ◌∷◌, ◌++◌, sym, ap, ◌∙◌, append-nil, append_assoc}
 use Rattle.std.specs.List.{flat_map}
 use Rattle.std.proofs.lemmas.Grind.{flat_map-append}
 use Rattle.std.specs.Prelude.{Result, Ok, Err, OnOk, is_ok, if◌then◌else◌}
@@ -45,6 +45,16 @@ line_written layout scheme contents t m old one two three same_scheme same_conte
     let whole : joined (coordinates layout.scheme t ++ contents_from layout.scheme t m 0 layout.contents) ≡ place ++ names = place_and_more layout.scheme t (contents_from layout.scheme t m 0 layout.contents) in
     third ∙ ap (λ w. w ++ (10 ∷ [])) (two_is ∙ ap (λ w. w ++ names) one_is ∙ append_assoc old place names)
     ∙ append_assoc old (place ++ names) (10 ∷ []) ∙ ap (λ w. old ++ (w ++ (10 ∷ []))) (sym whole)
+
+-- and its length that of these parts
+pub length_of_line : (layout : Layout) (scheme : Scheme) (contents : List (List ℕ)) (t : Tile) (m place names : ℕ) → scheme ≡ layout.scheme → contents ≡ layout.contents
+    → place ≡ length (joined (coordinates scheme t)) → names ≡ length (flat_map after_tab (contents_from scheme t m 0 contents)) → place + names + 1 ≡ length (tile_line layout t m)
+length_of_line layout scheme contents t m place names same_scheme same_contents first second =
+    let fields = joined (coordinates scheme t) in
+    let more = flat_map after_tab (contents_from scheme t m 0 contents) in
+    let whole : (fields ++ more) ++ (10 ∷ []) ≡ tile_line layout t m =
+    line_written layout scheme contents t m [] fields (fields ++ more) ((fields ++ more) ++ (10 ∷ [])) same_scheme same_contents refl refl refl in
+    omega (arith, first, second, length-append (fields ++ more) (10 ∷ []), length-append fields more, ap (λ w. length w) whole)
 
 -- a push that succeeds appends
 pub pushed : {T E : Type 0} (r : Result T E) (now before text : List ℕ) → now ≡ (if is_ok r then before ++ text else before) → OnOk r (now ≡ before ++ text)

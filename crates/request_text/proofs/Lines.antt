@@ -1,5 +1,5 @@
 -- A text of lines that is given line by line.
-use Rattle.std.proofs.Common.{◌≡◌, ℕ, ◌+◌, ◌<◌, List, [], ◌∷◌, ◌++◌, length, take, drop, get_or, sym, ap, ◌∙◌, append_assoc, append-nil}
+use Rattle.std.proofs.Common.{◌≡◌, ℕ, ◌+◌, ◌<◌, List, [], ◌∷◌, ◌++◌, length, take, drop, get_or, sym, ap, ◌∙◌, append_assoc, append-nil, length-append}
 use Rattle.std.specs.Prelude.{Option}
 use Rattle.std.specs.List.{flat_map}
 use Rattle.std.specs.Io.KnownBytes.{Appends}
@@ -9,11 +9,16 @@ use Rattle.scene_ports.specs.Output.{GivesFront, GivesAllBut}
 use Rattle.scene_ports.proofs.Giving.{all_but_line, all_but_then, all_but_then_front, all_but_end, front_within}
 
 -- one line more
-lines_more : {X : Type 0} (line : X → List ℕ) (xs : List X) (i : ℕ) (d : X) → i < length xs
+pub lines_more : {X : Type 0} (line : X → List ℕ) (xs : List X) (i : ℕ) (d : X) → i < length xs
     → flat_map line (take (i + 1) xs) ≡ flat_map line (take i xs) ++ line (get_or xs i d)
 lines_more line xs i d within =
     ap (flat_map line) (take_more xs i d within) ∙ flat_map-append line (take i xs) (get_or xs i d ∷ [])
     ∙ ap (λ w. flat_map line (take i xs) ++ w) (append-nil (line (get_or xs i d)))
+
+pub length-lines_more : {X : Type 0} (line : X → List ℕ) (xs : List X) (i : ℕ) (d : X) → i < length xs
+    → length (flat_map line (take (i + 1) xs)) ≡ length (flat_map line (take i xs)) + length (line (get_or xs i d))
+length-lines_more line xs i d within =
+    ap (λ w. length w) (lines_more line xs i d within) ∙ length-append (flat_map line (take i xs)) (line (get_or xs i d))
 
 -- the first lines are a front of the whole
 pub lines_split : {X : Type 0} (line : X → List ℕ) (xs : List X) (i : ℕ) (end : List ℕ) → flat_map line xs ++ end ≡ flat_map line (take i xs) ++ (flat_map line (drop i xs) ++ end)

@@ -6,10 +6,12 @@
 mod check_text;
 mod fields;
 pub mod laws;
+mod length;
 mod line;
 mod text;
 
 pub use check_text::write_check;
+pub use length::answer_length;
 pub use line::{Refusal, is_coordinates, is_number, parse_line};
 pub use text::{write_answer, write_refusal};
 

@@ -4,7 +4,9 @@ ghost use Rattle.std.specs.List.{All};
 ghost use Rattle.implicit_tiling.specs.Code.{IsWord};
 ghost use Rattle.request_text.specs.Ends.{HasWord};
 
-use crate::{is_coordinates, is_number, parse_line, write_answer, write_check, write_refusal};
+use crate::{
+    answer_length, is_coordinates, is_number, parse_line, write_answer, write_check, write_refusal,
+};
 use availability::tile_of;
 use scene_ports::{GiveFault, MemoryLink};
 use std::alloc::{AllocError, Global};
@@ -142,6 +144,13 @@ fn answer_to(
     Some(write_answer(alloc, layout, words, end, link))
 }
 
+fn length_of(layout: &Layout, words: &[Word], end: WalkEnd) -> Option<u64> {
+    if !are_words(layout.scheme, words) || !has_word(layout.scheme, end) || words.len() > 65536 {
+        return None;
+    }
+    Some(answer_length(layout, words, end))
+}
+
 fn check_to(
     alloc: Global,
     scheme: Scheme,
@@ -201,6 +210,7 @@ fn texts_of_answers(rt: HostRuntime) -> Result<(), Fail> {
     for (layout, end, wanted) in rows {
         let mut link = link(alloc, &[])?;
         assert!(rt; answer_to(alloc, layout, &words, end, &mut link) == Some(Ok(())));
+        assert!(rt; length_of(layout, &words, end) == Some(wanted.len() as u64));
         assert!(rt; link.written() == wanted.as_bytes());
     }
     Ok(())

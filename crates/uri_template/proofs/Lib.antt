@@ -1,3 +1,4 @@
 pub mod Variables
 pub mod Appending
 pub mod Axes
+pub mod Lengths

@@ -38,7 +38,12 @@ pub(crate) fn append_filled(
 }
 
 // The number of the variable whose name begins behind a '{', and the text behind its '}'.
-fn variable<'t>(axes: u32, level: u32, coords: [u32; 3], text: &'t str) -> Option<(u32, &'t str)>
+pub(crate) fn variable<'t>(
+    axes: u32,
+    level: u32,
+    coords: [u32; 3],
+    text: &'t str,
+) -> Option<(u32, &'t str)>
     requires { (2 ≤ axes) × (axes ≤ 3) }
     ensures { FindsVariable (variable_at (variables (scheme_of axes) (tile_of level coords)) (123 ∷ text.now)) text.now result }
 {

@@ -4,6 +4,7 @@
 #![tactic(auto)]
 
 mod filling;
+mod length;
 mod template;
 
 pub use template::{MOST_BYTES, Template, TemplateFault};

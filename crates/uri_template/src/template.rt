@@ -1,9 +1,10 @@
 // Templates: texts that were tested once, and are filled for many tiles.
-ghost use Rattle.std.specs.Prelude.{◌≡◌, ◌<◌, ◌≤◌, ◌↔◌, ◌++◌, false, IfOk, OnOk, OnErr, string_bytes, is_ok, length};
+ghost use Rattle.std.specs.Prelude.{◌≡◌, ◌<◌, ◌≤◌, ◌↔◌, ◌++◌, ◌*◌, false, IfOk, OnOk, OnErr, string_bytes, is_ok, length};
 ghost use Rattle.uri_template.specs.Filling.{scheme_of, tile_of};
 ghost use Rattle.implicit_tiling.specs.Template.{filled, is_template, is_printable as printable};
 
 use crate::filling::append_filled;
+use crate::length::length_filled;
 use std::alloc::AllocError;
 use std::marker::Model;
 
@@ -81,6 +82,15 @@ impl Template {
             out.truncate(before);
         }
         appended
+    }
+
+    /// The length in bytes of the text that `fill` appends, at most 10 for each byte of the template. It takes no memory.
+    pub fn filled_length(&self, axes: u32, level: u32, coords: [u32; 3]) -> u64
+        requires { (2 ≤ axes) × (axes ≤ 3) }
+        ensures length { result ≡ length (filled (scheme_of axes) self.now (tile_of level coords)) }
+        ensures short { result ≤ 10 * MOST_BYTES }
+    {
+        length_filled(self.text.as_str(), axes, level, coords)
     }
 }
 

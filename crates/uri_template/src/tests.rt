@@ -28,6 +28,7 @@ fn templates_of_the_standard(rt: HostRuntime) -> Result<(), Fail> {
         let mut out = String::from_str(alloc, "> ")?;
         assert!(rt; template.fill(axes, level, coords, &mut out).is_ok());
         assert!(rt; out.as_str().strip_prefix("> ") == Some(wanted));
+        assert!(rt; template.filled_length(axes, level, coords) == wanted.len() as u64);
     }
     Ok(())
 }
