@@ -1,21 +1,21 @@
 -- What was told of files, as what is wanted; and plans that fit.
-use Rattle.std.proofs.Common.{◌≡◌, ℕ, ◌<◌, ◌≤◌, Bool, true, false, List, [], ◌∷◌, ◌++◌, length, refl, sym, ap, subst, ◌∙◌, arith}
-use Rattle.std.specs.Prelude.{Option, Some, None, IfSome, Result, Ok, Err, IsTrue, ◌↔◌, if◌then◌else◌, nat_lt, nat_le, not, ◌^◌, ◌==◌, ◌&&◌, slice_index, map, OnOk}
-use Rattle.std.specs.Io.KnownBytes.{Appends, Keeps}
+use Rattle.std.proofs.Common.{◌≡◌, ℕ, ◌<◌, ◌≤◌, Bool, true, false, List, [], ◌∷◌, length, refl, sym, ap, subst, ◌∙◌, arith}
+use Rattle.std.specs.Prelude.{Option, Some, None, IfSome, Result, Ok, Err, IsTrue, ◌↔◌, if◌then◌else◌, nat_lt, nat_le, not, ◌^◌, ◌==◌, ◌&&◌, slice_index, map}
+use Rattle.std.specs.Io.KnownBytes.{Appends}
 use Rattle.std.proofs.KnownBytes.{Appends-nil, Keeps-refl}
 use Rattle.std.proofs.lemmas.Bool.{and_parts, eqb-true, false≢true}
 use Rattle.std.proofs.Math.Nat.{suc-ne-zero}
 use Rattle.implicit_tiling.specs.declared.Scheme.{Scheme}
 use Rattle.implicit_tiling.specs.declared.Scheme.TheVariants.{Quad, Oct}
 use Rattle.implicit_tiling.specs.Limits.{most_levels}
-use Rattle.implicit_tiling.specs.Checks.{refuse, need}
+use Rattle.implicit_tiling.specs.Checks.{refuse}
 use Rattle.implicit_tiling.specs.Tile.{Tile, axes, depth_of}
 use Rattle.implicit_tiling.specs.Files.{Files}
 use Rattle.implicit_tiling.specs.Region.{Region, Plan, region_of, some_axis}
 use Rattle.implicit_tiling.specs.Request.{Line, plan_of_line, planned, three}
 use Rattle.implicit_tiling.specs.Scene.{Layout, Scene}
 use Rattle.implicit_tiling.specs.Answer.{End, complete, too_many, fault, answer}
-use Rattle.implicit_tiling.specs.Steps.{StepEnd, partial, ended}
+use Rattle.implicit_tiling.specs.Steps.{ended}
 use Rattle.implicit_tiling.specs.Checked.{checked}
 use Rattle.implicit_tiling.specs.Text.{words_text, answer_text, checked_text}
 use Rattle.implicit_tileset.specs.Scene.{scene_of}
@@ -24,7 +24,7 @@ use Rattle.tile_coords.specs.declared.walk_end.WalkEnd.{WalkEnd}
 use Rattle.tile_coords.specs.declared.walk_end.WalkEnd.TheVariants.{Partial, Complete, TooMany, Fault}
 use Rattle.tile_coords.specs.declared.walk_end.FoundFault.{FoundFault}
 use Rattle.tile_coords.specs.declared.walk_end.CheckEnd.{CheckEnd}
-use Rattle.request_text.specs.Found.{found_of, end_of_check, found_text}
+use Rattle.request_text.specs.Found.{found_of, found_text}
 use Rattle.tile_coords.specs.Ends.{end_seen}
 use Rattle.tileset_json.specs.Limits.{IsWithinLimits}
 use Rattle.walk_laws.proofs.Regions.{accepted_is_a_region}
@@ -34,7 +34,9 @@ use Rattle.commands.specs.declared.status.Status.{Status}
 use Rattle.commands.specs.declared.status.Status.TheVariants.{Done, Faulted, Usage, BadLayout, ReadFault, WriteFault, InputFault, Memory, InputLong}
 use Rattle.commands.specs.Words.{Wish}
 use Rattle.commands.specs.Replies.{Reply, end_status, walk_status, found_status, plan_reply, check_reply, layout_in, reply_over, reply_wanted, Agrees, IsGiven, IsBegun, Replies}
-use Rattle.commands.specs.Pending.{FitsLayout, IsAnswer, IsChecked, tile_word}
+use Rattle.tile_walk.specs.Plans.{FitsLayout}
+use Rattle.tile_walk.specs.Walks.{IsAnswer, tile_word}
+use Rattle.commands.specs.Pending.{IsChecked}
 
 -- a fact of each list of files that a source tells
 pub of_told : (told : Option Files) (P Q : Files → Type 0) → ((all : Files) → P all → Q all) → IfSome told P → IfSome told Q

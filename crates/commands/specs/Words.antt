@@ -1,5 +1,5 @@
 -- The words of a command line, and what they ask for (this project's own).
-use Rattle.std.specs.Prelude.{ℕ, ◌≡◌, Bool, List, [], ◌∷◌, codes, Option, Some, None, option_map, is_some, Result, Ok, Err, string_bytes, if◌then◌else◌}
+use Rattle.std.specs.Prelude.{ℕ, ◌≡◌, List, [], ◌∷◌, codes, Option, Some, None, option_map, Result, Ok, Err, string_bytes, if◌then◌else◌}
 use Rattle.std.specs.List.{join_with_byte}
 use Rattle.std.specs.Str.{bytes_eq}
 use Rattle.implicit_tiling.specs.Request.{line_of_words}

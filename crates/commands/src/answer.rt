@@ -5,14 +5,14 @@ ghost use Rattle.implicit_tiling.specs.Text.{refused_text};
 ghost use Rattle.implicit_tileset.specs.Scene.{scene_of};
 ghost use Rattle.scene_ports.specs.Counts.{Rose};
 ghost use Rattle.commands.specs.Replies.{Replies, IsBeforeWriting, line_reply, plan_reply, walk_status};
-ghost use Rattle.commands.specs.Pending.{FitsLayout};
+ghost use Rattle.tile_walk.specs.Plans.{FitsLayout};
 
-use crate::pending::{WalkStop, fresh};
 use crate::status::Status;
 use request_text::{parse_line, write_answer, write_refusal};
 use scene_ports::{FileSource, GiveFault, Outlet};
 use std::alloc::Global;
 use tile_coords::{Plan, WalkEnd};
+use tile_walk::{WalkStop, fresh};
 use tileset_json::Layout;
 
 /// Gives the answer to a request line, or its refusal.

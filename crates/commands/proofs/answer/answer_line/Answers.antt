@@ -1,4 +1,4 @@
-use Rattle.std.proofs.Common.{sym, ◌∙◌}
+use Rattle.std.proofs.Common.{sym}
 use Rattle.commands.proofs.Answering.{plan_fits}
 use Rattle.commands.proofs.answer.answer_line.Goals as goal
 

@@ -1,8 +1,4 @@
-use Rattle.std.proofs.Common.{◌≡◌, ap, List, ℕ, subst}
-use Rattle.implicit_tiling.specs.Text.{words_text}
-use Rattle.tile_coords.specs.Ends.{end_seen}
-use Rattle.std.specs.Io.KnownBytes.{Appends}
-use Rattle.scene_ports.specs.Output.{GivesFront}
+use Rattle.std.proofs.Common.{subst}
 use Rattle.tileset_json.specs.Limits.{IsWithinLimits}
 use Rattle.commands.proofs.Answering.{of_each, nothing_given, told_replies, told_begun}
 use Rattle.commands.proofs.answer.answer_plan.Goals as goal

@@ -1,6 +1,5 @@
 use Rattle.std.proofs.Common.{◌≡◌, ap, subst, length, ◌∙◌}
 use Rattle.std.specs.Prelude.{◌==◌}
-use Rattle.implicit_tiling.specs.declared.Scheme.{Scheme}
 use Rattle.implicit_tiling.specs.Scene.{Layout}
 use Rattle.tileset_json.specs.Limits.{IsWithinLimits}
 use Rattle.commands.proofs.Answering.{of_each, nothing_given, empty_means, told_checked, told_check_begun}

@@ -1,4 +1,4 @@
-use Rattle.std.proofs.Common.{map, length, arith}
+use Rattle.std.proofs.Common.{map, arith}
 use Rattle.std.specs.Prelude.{string_bytes}
 use Rattle.std.proofs.lemmas.List.{length-map}
 use Rattle.commands.proofs.Given.{words_of_a_check}
