@@ -1,12 +1,12 @@
 -- The contents that are used, part by part: what was used, and what is left.
-use Rattle.std.proofs.Common.{◌≡◌, ℕ, suc, ◌+◌, ◌<◌, ◌≤◌, List, [], ◌∷◌, ◌++◌, length, get_or, drop, take, map, refl, sym, ap, ◌∙◌, add-one, append_assoc, append-nil}
+use Rattle.std.proofs.Common.{◌≡◌, ℕ, suc, ◌<◌, ◌≤◌, List, [], ◌∷◌, ◌++◌, length, get_or, drop, take, map, refl, sym, ap, ◌∙◌, append-nil}
 use Rattle.std.specs.Prelude.{Option, Some, None, option_map, Ok, min}
 use Rattle.std.proofs.Math.Seq.{drop-cons}
 use Rattle.std.proofs.lemmas.List.{take_min, take-map}
 use Rattle.std.proofs.Math.ListN.{drop_of_length-le}
 use Rattle.implicit_tiling.specs.Checks.{need}
 use Rattle.implicit_tiling.specs.Scene.{Layout}
-use Rattle.implicit_tileset.specs.Record.{SubtreeRecord, Availability as availability, well_formed}
+use Rattle.implicit_tileset.specs.Record.{SubtreeRecord, Availability as availability}
 use Rattle.implicit_tileset.specs.SubtreeFile.{Used, availabilities, wanted_contents, for_nodes, for_children}
 use Rattle.subtree_json.specs.declared.part.ContentPart.{ContentPart}
 use Rattle.subtree_json.specs.declared.part.ContentPart.TheVariants.{Malformed}
@@ -23,21 +23,6 @@ followed f done rest = option_map (λ more. done ++ map f more) rest
 
 abbrev pub goes_on : {A : Type 0} → (availability → A) → List A → List ContentPart → ℕ → Option (List A)
 goes_on f done parts i = followed f done (of_all (drop i parts))
-
-followed-one : {A : Type 0} (f : availability → A) (done : List A) (a : availability) (rest : Option (List availability))
-    → followed f (done ++ f a ∷ []) rest ≡ followed f done (option_map (λ more. a ∷ more) rest)
-followed-one f done a None = refl
-followed-one f done a (Some more) = ap Some (append_assoc done (f a ∷ []) (map f more))
-
-here : (parts : List ContentPart) (i : ℕ) (part : ContentPart) → i < length parts → part ≡ get_or parts i part → drop i parts ≡ part ∷ drop (i + 1) parts
-here parts i part within is = drop-cons parts i part within ∙ rw (add-one) (ap (λ p. p ∷ drop (suc i) parts) (sym is))
-
-pub goes_on-step : {A : Type 0} (f : availability → A) (done : List A) (parts : List ContentPart) (i : ℕ) (part : ContentPart) (a : availability)
-    → i < length parts → part ≡ get_or parts i part → content_seen part ≡ well_formed a → goes_on f (done ++ f a ∷ []) parts (i + 1) ≡ goes_on f done parts i
-goes_on-step f done parts i part a within is good =
-    followed-one f done a (of_all (drop (i + 1) parts))
-    ∙ ap (λ p. followed f done (availabilities (p ∷ map content_seen (drop (i + 1) parts)))) (sym good)
-    ∙ ap (λ ps. followed f done (of_all ps)) (sym (here parts i part within is))
 
 pub goes_on-malformed : {A : Type 0} (f : availability → A) (done : List A) (parts : List ContentPart) (i : ℕ) (d : ContentPart)
     → i < length parts → get_or parts i d ≡ Malformed → goes_on f done parts i ≡ None

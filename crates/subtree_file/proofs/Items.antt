@@ -32,20 +32,6 @@ any_at p [] i d within here = absurd (omega arith)
 any_at p (x ∷ xs) zero d within here = ap (λ a. a || list_any p xs) here
 any_at p (x ∷ xs) (suc i) d within here = ap (λ a. p x || a) (any_at p xs i d (omega arith) here) ∙ or-true (p x)
 
--- no item passes, so this one doesn't
-pub left : (a b : Bool) → (a || b) ≡ false → a ≡ false
-left true b h = h
-left false b h = refl
-
-pub right : (a b : Bool) → (a || b) ≡ false → b ≡ false
-right true b h = cc
-right false b h = h
-
-pub none_at : {X : Type 0} (p : X → Bool) (xs : List X) (i : ℕ) (d : X) → i < length xs → list_any p xs ≡ false → p (get_or xs i d) ≡ false
-none_at p [] i d within none = absurd (omega arith)
-none_at p (x ∷ xs) zero d within none = left (p x) (list_any p xs) none
-none_at p (x ∷ xs) (suc i) d within none = none_at p xs i d (omega arith) (right (p x) (list_any p xs) none)
-
 -- a last row that was refused, or passed
 pub refused : {B : Type 0} (number : ℕ) (test : Bool) (b : B) (n : ℕ) → refuse number test (Ok b) ≡ Err n → (test ≡ true) × (number ≡ n)
 refused number true b n is = (refl, cc)
