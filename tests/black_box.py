@@ -11,6 +11,9 @@ import subprocess
 import sys
 import tempfile
 
+sys.path.insert(0, os.path.join(os.path.dirname(os.path.abspath(__file__)), "..", "examples"))
+import make
+
 PROGRAM = os.path.abspath(sys.argv[1])
 passed = failed = 0
 
@@ -284,7 +287,26 @@ def check_cases():
     run("check_of_a_folder", {**tileset_a(), "s/0/0/0.subtree": None}, ["check"], "", 4)
 
 
+def example_cases():
+    """The examples, against the sets of tiles that they were made from."""
+    for scene in make.SCENES:
+        folder = os.path.join(make.HERE, scene["name"])
+        last = scene["levels"] - 1
+        whole = (tuple([0] * scene["axes"]), tuple([2 ** last - 1] * scene["axes"]))
+        part = (tuple([2 ** last // 4] * scene["axes"]), tuple([2 ** last // 2] * scene["axes"]))
+        for name, level, (low, high) in (("whole", last, whole), ("part", last, part), ("top", 0, (whole[0], whole[0]))):
+            words = ["tiles", str(level), ",".join(map(str, low)), ",".join(map(str, high))]
+            done = subprocess.run([PROGRAM] + words, cwd=folder, capture_output=True, timeout=120)
+            wanted = make.answer(scene, level, low, high)
+            report(f"{scene['name']}_{name}", [] if (done.returncode, done.stdout.decode()) == (0, wanted) else
+                   [f"status {done.returncode}, output {done.stdout[:200]!r}, not {wanted[:200]!r}"])
+        roots = sum(1 for tile in scene["tiles"] if tile[0] % scene["subtree"] == 0)
+        done = subprocess.run([PROGRAM, "check"], cwd=folder, capture_output=True, timeout=120)
+        report(f"{scene['name']}_check", [] if done.stdout.decode() == f"end\tchecked\t{roots}\t0\n" else [repr(done.stdout)])
+
+
 tiles_cases()
+example_cases()
 refusal_cases()
 layout_cases()
 device_cases()
