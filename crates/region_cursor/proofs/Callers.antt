@@ -1,14 +1,17 @@
 -- What a caller has to know of a walk and of the subtrees that it reads.
-use Rattle.std.proofs.Common.{◌≡◌, ℕ, ◌%◌, ◌<◌, ◌≤◌, false, Option, Some, length, sym, ap, subst, ◌∙◌, arith}
+use Rattle.std.proofs.Common.{◌≡◌, ℕ, ◌%◌, false, Option, Some, sym, ap, ◌∙◌, arith}
 use Rattle.std.proofs.lemmas.Option.{get_or_from_slice_get}
 use Rattle.implicit_tiling.specs.declared.Scheme.{Scheme}
 use Rattle.implicit_tiling.specs.Tile.{Tile}
 use Rattle.implicit_tiling.specs.Region.{Region}
 use Rattle.implicit_tiling.specs.Scene.{Layout}
 use Rattle.implicit_tiling.specs.Subtree.{Subtree, IsOf, has_orphan}
-use Rattle.implicit_tiling.specs.Code.{word, word_tile, word_mask}
+use Rattle.implicit_tiling.specs.Code.{word, word_tile}
 use Rattle.availability.proofs.Tiles.{parts_have_their_word}
-use Rattle.region_cursor.specs.Cursor.{Cursor, IsWalkOf, IsSameWalk, IsRootKey, FitsSubtree, key_of, next_root}
+use Rattle.region_cursor.specs.Cursor.{Cursor, IsWalkOf, IsSameWalk, IsRootKey, FitsSubtree, Fits, key_of, next_root}
+use Rattle.region_cursor.specs.Outcomes.{IsOutcomeAt}
+use Rattle.region_cursor.specs.declared.outcome.Outcome.{Outcome}
+use Rattle.region_cursor.specs.declared.outcome.Outcome.TheVariants.{Good, Bad}
 
 -- a walk stays one of its layout
 pub walk_stays : (layout : Layout) (region : Region) (old new : Cursor) → IsWalkOf layout region old → IsSameWalk old new → IsWalkOf layout region new
@@ -27,7 +30,7 @@ pub next_root_of_key : (c : Cursor) (key : ℕ) → key_of c ≡ Some key → ne
 next_root_of_key c key at = ap (word_tile c.scheme) (get_or_from_slice_get c.roots c.position key 0 at)
 
 -- a subtree of the layout without an orphan that begins with the next root fits the step
-pub subtree_fits : (layout : Layout) (region : Region) (c : Cursor) (key : ℕ) (st : Subtree) → IsWalkOf layout region c → key_of c ≡ Some key → IsRootKey c key
+subtree_fits : (layout : Layout) (region : Region) (c : Cursor) (key : ℕ) (st : Subtree) → IsWalkOf layout region c → key_of c ≡ Some key → IsRootKey c key
     → IsOf layout st → has_orphan st ≡ false → st.root ≡ word_tile c.scheme key → FitsSubtree c st
 subtree_fits layout region c key st is at root of no_orphan begins =
     let scheme = of.same_scheme ∙ sym is.same_scheme in
@@ -43,3 +46,10 @@ subtree_fits layout region c key st is at root of no_orphan begins =
           (ap (λ (e : Scheme). word e st.root 0) scheme ∙ ap (λ (t : Tile). word c.scheme t 0) begins
           ∙ ap (word c.scheme (word_tile c.scheme key)) (sym root.root.no_contents) ∙ parts));
     }
+
+-- and so does what is read of any source
+pub outcome_fits : (layout : Layout) (region : Region) (c : Cursor) (key : ℕ) (found : Outcome) → IsWalkOf layout region c → key_of c ≡ Some key → IsRootKey c key
+    → IsOutcomeAt layout (word_tile layout.scheme key) found → Fits c found
+outcome_fits layout region c key (Good st) is at root found =
+    subtree_fits layout region c key st is at root found.of_layout found.no_orphan (found.at_root ∙ ap (λ (e : Scheme). word_tile e key) (sym is.same_scheme))
+outcome_fits layout region c key (Bad n) is at root found = tt

@@ -1,25 +1,20 @@
 -- The pair that a walk stands at, and its step.
-use Rattle.std.proofs.Common.{◌≡◌, ℕ, suc, ◌+◌, ◌-◌, ◌%◌, ◌<◌, ◌≤◌, Bool, true, false, List, [], ◌∷◌, ◌++◌, Option, Some, None, length, get_or, take, drop, map, refl, sym, ap, subst, ◌∙◌, arith, append_assoc}
+use Rattle.std.proofs.Common.{◌≡◌, ℕ, suc, ◌+◌, ◌-◌, ◌<◌, ◌≤◌, Bool, true, false, List, [], ◌∷◌, ◌++◌, Option, Some, None, length, get_or, take, drop, map, refl, sym, ap, subst, ◌∙◌, arith, append_assoc}
 use Rattle.std.specs.Prelude.{nat_lt, slice_get, IsSomeAnd}
-use Rattle.std.specs.List.{flat_map, range_with_len, All}
+use Rattle.std.specs.List.{flat_map, range_with_len}
 use Rattle.std.proofs.lemmas.List.{take_more, map-append, length-map, get_or-map}
 use Rattle.std.proofs.lemmas.Option.{slice_get_within, slice_get-get_or}
-use Rattle.std.proofs.lemmas.Bool.{and_parts, ltb-true}
-use Rattle.implicit_tiling.specs.Limits.{most_levels}
 use Rattle.implicit_tiling.specs.Tile.{Tile, root}
 use Rattle.implicit_tiling.specs.Region.{Region}
 use Rattle.implicit_tiling.specs.Scene.{Scene}
 use Rattle.implicit_tiling.specs.Answer.{most_tiles}
-use Rattle.implicit_tiling.specs.Availability.{is_subtree_root, is_available, child_bit}
-use Rattle.implicit_tiling.specs.Code.{word, word_tile}
 use Rattle.implicit_tiling.specs.Steps.{Pair, pair_of, walk_roots, pairs, segment, pair_fault, last_or_not, StepEnd, Step, step_then, steps, steps_from}
 use Rattle.walk_laws.specs.Children.{IsWalkRoot}
-use Rattle.walk_laws.specs.Pairs.{level_pairs, pairs_above, NoPairFaults, tiles_of_pairs, step_on}
+use Rattle.walk_laws.specs.Pairs.{level_pairs, pairs_above, tiles_of_pairs, step_on}
 use Rattle.walk_laws.proofs.PairLevels.{pairs_at_a_root}
 use Rattle.walk_laws.proofs.PairAnswers.{steps_follow_the_pairs}
 use Rattle.walk_laws.proofs.WalkRoots.{roots_are_on_the_walk}
-use Rattle.availability.proofs.Tiles.{tile_of_word}
-use Rattle.region_cursor.specs.Cursor.{Cursor, key_of, next_root}
+use Rattle.region_cursor.specs.Cursor.{Cursor, key_of}
 use Rattle.region_cursor.specs.Walked.{root_word, pairs_done, GoesOn, IsAtBy, IsAt, IsNextKey}
 use Rattle.region_cursor.proofs.Lists.{split_at, get_at, length_at}
 

@@ -1,7 +1,7 @@
 -- A step from an outcome of a scene is the step of the walk over the scene.
-use Rattle.std.proofs.Common.{◌≡◌, ℕ, ◌+◌, ◌-◌, ◌%◌, ◌^◌, ◌<◌, ◌≤◌, Bool, true, false, List, [], ◌∷◌, ◌++◌, Option, Some, None, length, get_or, take, map, refl, sym, ap, subst, ◌∙◌, arith, append-nil, add-zero, length-append}
-use Rattle.std.specs.Prelude.{◌&&◌, ◌==◌, nat_lt, slice_get, slice_index, IsSome, IsSomeAnd, filter}
-use Rattle.std.specs.List.{flat_map, All}
+use Rattle.std.proofs.Common.{◌≡◌, ℕ, ◌+◌, ◌-◌, ◌%◌, ◌^◌, ◌<◌, ◌≤◌, Bool, true, false, List, [], ◌∷◌, ◌++◌, Option, Some, None, length, take, map, refl, sym, ap, subst, ◌∙◌, arith, append-nil, length-append}
+use Rattle.std.specs.Prelude.{◌&&◌, ◌==◌, nat_lt, slice_index, IsSome, IsSomeAnd, filter}
+use Rattle.std.specs.List.{flat_map}
 use Rattle.std.proofs.lemmas.Nat.{mod_below}
 use Rattle.std.proofs.lemmas.Bool.{and_parts, ltb-true, ltb-false, lt-ltb, le-ltb, eqb-true, eqb-false, false_from_ne_true}
 use Rattle.std.proofs.lemmas.List.{take_more, take_all, take-map, map-append, length-map}
@@ -12,13 +12,13 @@ use Rattle.implicit_tiling.specs.declared.Scheme.{Scheme}
 use Rattle.implicit_tiling.specs.Limits.{most_levels}
 use Rattle.implicit_tiling.specs.Tile.{Tile, IsTile, root}
 use Rattle.implicit_tiling.specs.Region.{Region, Plan, is_in}
-use Rattle.implicit_tiling.specs.Scene.{Layout, Outcome as outcome, Scene, good, bad, fault_of}
-use Rattle.implicit_tiling.specs.Availability.{local_level, subtree_root, is_subtree_root, is_available, is_reached, child_bit, mask}
+use Rattle.implicit_tiling.specs.Scene.{Layout, Scene, good, bad, fault_of}
+use Rattle.implicit_tiling.specs.Availability.{local_level, subtree_root, is_subtree_root, is_available, is_reached}
 use Rattle.implicit_tiling.specs.Answer.{most_tiles, too_many, fault}
 use Rattle.implicit_tiling.specs.Subtree.{Subtree, IsSubtree, bits_of}
 use Rattle.implicit_tiling.specs.Code.{word, word_tile}
 use Rattle.implicit_tiling.specs.Nodes.{level_words, child_words}
-use Rattle.implicit_tiling.specs.Steps.{Pair, pair_of, descendants, root_level, walk_roots, segment, pair_fault, last_or_not, ended, Step, step_then, steps, steps_from}
+use Rattle.implicit_tiling.specs.Steps.{pair_of, descendants, segment, pair_fault, last_or_not, ended, Step, step_then, steps, steps_from}
 use Rattle.tiling_laws.proofs.Available.{available_as_written}
 use Rattle.tile_coords.specs.Ends.{end_seen}
 use Rattle.tile_coords.specs.declared.walk_end.WalkEnd.{WalkEnd}
@@ -26,9 +26,9 @@ use Rattle.tile_coords.specs.declared.walk_end.WalkEnd.TheVariants.{TooMany, Fau
 use Rattle.availability.specs.Words.{HasWord}
 use Rattle.availability.proofs.Tiles.{tile_of_word}
 use Rattle.walk_laws.specs.Regions.{IsRegion}
-use Rattle.walk_laws.specs.Children.{roots_below, IsWalkRoot}
+use Rattle.walk_laws.specs.Children.{roots_below}
 use Rattle.walk_laws.specs.Decoded.{IsDecoded}
-use Rattle.walk_laws.specs.Pairs.{NoPairFaults, tiles_of_pairs}
+use Rattle.walk_laws.specs.Pairs.{tiles_of_pairs}
 use Rattle.walk_laws.proofs.Lists.{filter_none}
 use Rattle.walk_laws.proofs.Runs.{below, of_descendants}
 use Rattle.walk_laws.proofs.Segments.{local_low, below_root}
@@ -39,10 +39,10 @@ use Rattle.walk_laws.proofs.WalkRoots.{child_words_are_root_words}
 use Rattle.walk_laws.proofs.Pairs.{fault_at_own_level, no_fault_below, no_fault_of_good}
 use Rattle.region_cursor.specs.declared.outcome.Outcome.{Outcome}
 use Rattle.region_cursor.specs.declared.outcome.Outcome.TheVariants.{Good, Bad}
-use Rattle.region_cursor.specs.Cursor.{Cursor, IsWalkOf, local_level_of, is_last_local, key_of, next_root, FitsSubtree, Fits, FitsLayout}
-use Rattle.region_cursor.specs.Moves.{begun, over, passed, end_by_key, Made, went_on, children_if, with_children, counted, room, made_by, made_of, made_good, made_at, made_bad, made}
+use Rattle.region_cursor.specs.Cursor.{Cursor, local_level_of, is_last_local, key_of, next_root, FitsSubtree, Fits, FitsLayout}
+use Rattle.region_cursor.specs.Moves.{begun, over, passed, end_by_key, Made, went_on, children_if, with_children, counted, room, made_by, made_good, made_at, made}
 use Rattle.region_cursor.specs.Outcomes.{outcome_seen}
-use Rattle.region_cursor.specs.Walked.{root_word, tile_word, pairs_done, found_below, GoesOn, IsAtBy, IsAt, GivesStep}
+use Rattle.region_cursor.specs.Walked.{root_word, tile_word, pairs_done, found_below, GoesOn, IsAt, GivesStep}
 use Rattle.region_cursor.proofs.Places.{row, root_here, pair_here, rest_here, done_here, done_more, place_of_key, key_here, goes_on, IsStep, step_here, root_is_on_walk}
 use Rattle.region_cursor.proofs.Passing.{nothing_below, Counted, to_next}
 
@@ -366,9 +366,10 @@ pub makes_as_given : (s : Scene) (region : Region) (k : ℕ) (c : Cursor) (o : O
     → IsAt s region k c → IsSome (key_of c) → Fits c o → HasLimits o → outcome_seen o ≡ s.outcome (next_root c)
     → GivesStep s region k words end × IsAt s region (k + 1) after
 makes_as_given s region k c o words end after words_are end_is after_is is some fits limits same =
-    let m = makes_step s region k c o is some fits limits same in
-    (subst (λ w. GivesStep s region k w end) (sym words_are) (subst (λ e. GivesStep s region k (made c o).words e) (sym end_is) m.given),
-    subst (λ a. IsAt s region (k + 1) a) (sym after_is) m.after)
+    let m = makes_step s region k c o is some fits limits same in (
+      subst (λ w. GivesStep s region k w end) (sym words_are) (subst (λ e. GivesStep s region k (made c o).words e) (sym end_is) m.given),
+      subst (λ a. IsAt s region (k + 1) a) (sym after_is) m.after,
+    )
 
 pub begins_as_given : (s : Scene) (layout : Layout) (plan : Plan) (c : Cursor) → c ≡ begun layout plan.region → s.layout ≡ layout
     → 1 ≤ layout.subtree_levels → 1 ≤ layout.levels → layout.levels ≤ most_levels layout.scheme → FitsLayout layout plan → IsAt s plan.region 0 c

@@ -1,5 +1,5 @@
 -- The state of a walk after some steps over a scene, by the pairs and steps of the walk (this project's own).
-use Rattle.std.specs.Prelude.{ℕ, ◌≡◌, ◌+◌, ◌<◌, ◌≤◌, ◌++◌, Bool, true, false, List, [], length, take, map, Option, Some, None, slice_get, IsSomeAnd}
+use Rattle.std.specs.Prelude.{ℕ, ◌≡◌, ◌<◌, ◌≤◌, ◌++◌, Bool, true, false, List, [], length, take, map, Option, Some, None, slice_get, IsSomeAnd}
 use Rattle.std.specs.List.{flat_map}
 use Rattle.implicit_tiling.specs.declared.Scheme.{Scheme}
 use Rattle.implicit_tiling.specs.Tile.{Tile}

@@ -123,6 +123,7 @@ impl CursorState {
         ensures unchanged { IfErr result (λ e. self.new ≡ self.old) }
         ensures same_words { IfErr result (λ e. words.new.items ≡ words.old.items) }
     {
+        // What every subtree is becomes known here, for the words that it gives.
         let _ = &subtree.scheme;
         let begin = words.len();
         let local = self.local_level();

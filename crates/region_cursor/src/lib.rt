@@ -9,3 +9,6 @@ mod outcome;
 
 pub use cursor::CursorState;
 pub use outcome::Outcome;
+
+#[cfg(test)]
+mod tests;
