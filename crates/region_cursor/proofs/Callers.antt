@@ -7,11 +7,12 @@ use Rattle.implicit_tiling.specs.Region.{Region}
 use Rattle.implicit_tiling.specs.Scene.{Layout}
 use Rattle.implicit_tiling.specs.Subtree.{Subtree, IsOf, has_orphan}
 use Rattle.implicit_tiling.specs.Code.{word, word_tile}
-use Rattle.availability.proofs.Tiles.{parts_have_their_word}
-use Rattle.region_cursor.specs.Cursor.{Cursor, IsWalkOf, IsSameWalk, IsRootKey, FitsSubtree, Fits, key_of, next_root}
-use Rattle.region_cursor.specs.Outcomes.{IsOutcomeAt}
-use Rattle.region_cursor.specs.declared.outcome.Outcome.{Outcome}
-use Rattle.region_cursor.specs.declared.outcome.Outcome.TheVariants.{Good, Bad}
+use Rattle.availability.proofs.Tiles.{parts_have_their_word, word_tile_level, word_tile_is_tile}
+use Rattle.region_cursor.specs.Cursor.{Cursor, IsWalkOf, IsSameWalk, IsRootKey, FitsSubtree, Fits, key_of, next_root, root_level_of}
+use Rattle.tile_walk.specs.Roots.{IsRootTile}
+use Rattle.tile_walk.specs.Outcomes.{IsOutcomeAt}
+use Rattle.tile_walk.specs.declared.outcome.Outcome.{Outcome}
+use Rattle.tile_walk.specs.declared.outcome.Outcome.TheVariants.{Good, Bad}
 
 -- a walk stays one of its layout
 pub walk_stays : (layout : Layout) (region : Region) (old new : Cursor) → IsWalkOf layout region old → IsSameWalk old new → IsWalkOf layout region new
@@ -53,3 +54,14 @@ pub outcome_fits : (layout : Layout) (region : Region) (c : Cursor) (key : ℕ) 
 outcome_fits layout region c key (Good st) is at root found =
     subtree_fits layout region c key st is at root found.of_layout found.no_orphan (found.at_root ∙ ap (λ (e : Scheme). word_tile e key) (sym is.same_scheme))
 outcome_fits layout region c key (Bad n) is at root found = tt
+
+-- the tile of a next key
+pub key_is_of_a_root_tile : (layout : Layout) (region : Region) (c : Cursor) (key : ℕ) → IsWalkOf layout region c → IsRootKey c key → IsRootTile layout (word_tile layout.scheme key)
+key_is_of_a_root_tile layout region c key is root =
+    let level = word_tile_level layout.scheme key in
+    let own : (word_tile layout.scheme key).level ≡ root_level_of c = omega (arith, level, root.root.at_level) in
+    record {
+      below = omega (arith, own, root.below, is.same_levels);
+      at_start = ap (λ l. l % layout.subtree_levels) own ∙ sym (ap (λ n. root_level_of c % n) is.same_subtree_levels) ∙ root.at_start;
+      is_tile = word_tile_is_tile layout.scheme key;
+    }

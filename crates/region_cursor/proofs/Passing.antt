@@ -20,7 +20,7 @@ use Rattle.walk_laws.proofs.Children.{roots_go_down, next_level as next_start}
 use Rattle.walk_laws.proofs.Pairs.{pairs_go_down, pairs_above_come_first, pairs_end, roots_of_inner_levels}
 use Rattle.region_cursor.specs.Cursor.{Cursor, IsWalkOf, key_of, is_last_local}
 use Rattle.region_cursor.specs.Moves.{over, level_after, pair_after, passed, end_by_key}
-use Rattle.region_cursor.specs.Walked.{root_word, pairs_done, found_below, GoesOn, IsAtBy, IsAt}
+use Rattle.region_cursor.specs.Walked.{root_word, pairs_done, found_below, IsUnderWay, IsAtBy, IsAt}
 use Rattle.region_cursor.proofs.Places.{row, rest_here, later}
 
 -- nothing is below no roots
@@ -74,7 +74,7 @@ pub record Stands (s : Scene) (region : Region) (k : ℕ) (rest : List Pair) (c 
   pub at : IsAt s region k c
   pub end : end_seen s.layout.scheme (end_by_key (key_of c)) ≡ last_or_not rest
 
-stands_with : (s : Scene) (region : Region) (k : ℕ) (rest : List Pair) (c : Cursor) (key : ℕ) → key_of c ≡ Some key → GoesOn s region k c → partial ≡ last_or_not rest
+stands_with : (s : Scene) (region : Region) (k : ℕ) (rest : List Pair) (c : Cursor) (key : ℕ) → key_of c ≡ Some key → IsUnderWay s region k c → partial ≡ last_or_not rest
     → Stands s region k rest c
 stands_with s region k rest c key at on more = record {
   at = subst (λ o. IsAtBy o s region k c) (sym at) on;
@@ -119,7 +119,7 @@ none_follow s region level some low begins none =
 -- a state whose pair is done and counted, but which stands there still
 pub record Counted (s : Scene) (region : Region) (k : ℕ) (c : Cursor) : Type 0 where
   pub place : c.position < length (row s region c)
-  pub on : GoesOn s region k (record c { position = c.position + 1 })
+  pub on : IsUnderWay s region k (record c { position = c.position + 1 })
   pub ends : rest_here s region c ≡ [] → k ≡ length (steps s region)
 
 -- the next root of the level
@@ -168,7 +168,7 @@ abbrev at_next : Cursor → List ℕ → List ℕ → Cursor
 at_next c roots next_roots = record c { level = c.level + 1; position = 0; roots = roots; next_roots = next_roots }
 
 next_goes_on : (s : Scene) (region : Region) (k : ℕ) (c : Cursor) (roots next_roots : List ℕ) → Counted s region k c → LevelDone s region k c → c.level < region.level
-    → roots ≡ map (root_word s) (walk_roots s region (c.level + 1)) → next_roots ≡ [] → GoesOn s region k (at_next c roots next_roots)
+    → roots ≡ map (root_word s) (walk_roots s region (c.level + 1)) → next_roots ≡ [] → IsUnderWay s region k (at_next c roots next_roots)
 next_goes_on s region k c roots next_roots is d low are none =
     let same : pairs_done s region c.level (c.position + 1) ≡ pairs_done s region (c.level + 1) 0 = d.done ∙ sym (none_done s region (c.level + 1)) in
     record {

@@ -4,8 +4,9 @@ use Rattle.implicit_tiling.specs.Region.{Region}
 use Rattle.implicit_tiling.specs.Scene.{Layout}
 use Rattle.implicit_tiling.specs.Code.{word_tile}
 use Rattle.region_cursor.specs.Cursor.{Cursor, IsWalkOf, IsSameWalk, IsRootKey, Fits, key_of, next_root}
-use Rattle.region_cursor.specs.Outcomes.{IsOutcomeAt}
-use Rattle.region_cursor.specs.declared.outcome.Outcome.{Outcome}
+use Rattle.tile_walk.specs.Roots.{IsRootTile}
+use Rattle.tile_walk.specs.Outcomes.{IsOutcomeAt}
+use Rattle.tile_walk.specs.declared.outcome.Outcome.{Outcome}
 
 abbrev pub WalksStay : Type 0
 WalksStay = (layout : Layout) (region : Region) (old new : Cursor) → IsWalkOf layout region old → IsSameWalk old new → IsWalkOf layout region new
@@ -16,3 +17,7 @@ NextRootIsOfTheKey = (c : Cursor) (key : ℕ) → key_of c ≡ Some key → next
 abbrev pub OutcomesFit : Type 0
 OutcomesFit = (layout : Layout) (region : Region) (c : Cursor) (key : ℕ) (found : Outcome) → IsWalkOf layout region c → key_of c ≡ Some key → IsRootKey c key
     → IsOutcomeAt layout (word_tile layout.scheme key) found → Fits c found
+
+abbrev pub NextKeysAreOfRootTiles : Type 0
+NextKeysAreOfRootTiles = (layout : Layout) (region : Region) (c : Cursor) (key : ℕ) → IsWalkOf layout region c → IsRootKey c key
+    → IsRootTile layout (word_tile layout.scheme key)

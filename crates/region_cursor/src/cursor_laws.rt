@@ -1,5 +1,5 @@
 // Laws for callers that read the files of a layout (this project's own).
-ghost use Rattle.region_cursor.specs.Laws.{WalksStay, NextRootIsOfTheKey, OutcomesFit};
+ghost use Rattle.region_cursor.specs.Laws.{WalksStay, NextRootIsOfTheKey, NextKeysAreOfRootTiles, OutcomesFit};
 
 /// A walk stays one of its layout and region.
 pub fn a_walk_stays_of_its_layout()
@@ -9,6 +9,11 @@ pub fn a_walk_stays_of_its_layout()
 /// The root of the next step is the tile of the next key.
 pub fn the_next_root_is_of_the_key()
     ensures { NextRootIsOfTheKey }
+{}
+
+/// The tile of the next key is one with which a subtree of the layout may begin.
+pub fn the_tile_of_the_key_is_a_root()
+    ensures { NextKeysAreOfRootTiles }
 {}
 
 /// What is read of the file of the next key's tile, from any source, fits the next step.

@@ -4,10 +4,10 @@ use Rattle.std.specs.List.{All}
 use Rattle.std.proofs.lemmas.List.Elements.{All-same}
 use Rattle.std.proofs.lemmas.Result.{IfOk-weaker}
 use Rattle.implicit_tiling.specs.Scene.{Scene}
-use Rattle.region_cursor.specs.declared.outcome.Outcome.TheVariants.{Good, Bad}
+use Rattle.tile_walk.specs.declared.outcome.Outcome.TheVariants.{Good, Bad}
 use Rattle.region_cursor.specs.Cursor.{local_level_of, next_root, IsTileWord, Fits}
 use Rattle.region_cursor.specs.Moves.{made_good}
-use Rattle.region_cursor.specs.Outcomes.{outcome_seen}
+use Rattle.tile_walk.specs.Outcomes.{outcome_seen}
 use Rattle.region_cursor.specs.Walked.{IsAt, GivesStep}
 use Rattle.region_cursor.proofs.Results.{if_all}
 use Rattle.region_cursor.proofs.Words.{words_of_step, no_words_of_fault}

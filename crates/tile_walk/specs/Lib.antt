@@ -1,0 +1,5 @@
+pub mod Outcomes
+pub mod Roots
+pub mod Appended
+pub mod Walks
+pub mod Plans
