@@ -1,0 +1,4 @@
+mod Rows
+pub mod Mixed
+pub mod Added
+pub mod Encoded
