@@ -2,3 +2,7 @@ mod Rows
 pub mod Mixed
 pub mod Added
 pub mod Encoded
+pub mod Spaces
+pub mod Texts
+pub mod ReadValues
+pub mod Header
