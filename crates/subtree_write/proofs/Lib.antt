@@ -6,3 +6,5 @@ pub mod Spaces
 pub mod Texts
 pub mod ReadValues
 pub mod Header
+pub mod ReadRecord
+pub mod Held
