@@ -77,14 +77,14 @@ stream_names : (h : Held) (number : ℕ) (view : BufferView) (buffer : Buffer) (
 stream_names h number view buffer bits v =
     let n = length bits in
     let raw : raw_bits h (used (stream number (Some (ones bits))) n) ≡ bits =
-        ap (λ o. map (λ i. view_bit h.binary i o) (range_with_len 0 n)) v.view_is_there
-        ∙ ap (λ l. map (bit_of_bytes l) (range_with_len 0 n)) v.bytes ∙ bits_of_bytes-bytes_of_bits bits in
+    ap (λ o. map (λ i. view_bit h.binary i o) (range_with_len 0 n)) v.view_is_there
+    ∙ ap (λ l. map (bit_of_bytes l) (range_with_len 0 n)) v.bytes ∙ bits_of_bytes-bytes_of_bits bits in
     record {
       viewed = ap (λ o. is_none o || view_is (λ w. is_none (buffer_named h w)) o) v.view_is_there ∙ ap is_none v.buffer_is_there;
       internal = ap (view_is (λ w. buffer_is (λ b. b.external) (buffer_named h w))) v.view_is_there ∙ ap (buffer_is (λ b. b.external)) v.buffer_is_there ∙ v.own;
       inside = ap (view_is (λ w. buffer_is (λ b. nat_lt b.length (w.offset + w.length) || nat_lt (length h.binary) b.length) (buffer_named h w))) v.view_is_there
-        ∙ ap (buffer_is (λ b. nat_lt b.length (view.offset + view.length) || nat_lt (length h.binary) b.length)) v.buffer_is_there
-        ∙ either_false (nat_lt buffer.length (view.offset + view.length)) (nat_lt (length h.binary) buffer.length)
+          ∙ ap (buffer_is (λ b. nat_lt b.length (view.offset + view.length) || nat_lt (length h.binary) b.length)) v.buffer_is_there
+          ∙ either_false (nat_lt buffer.length (view.offset + view.length)) (nat_lt (length h.binary) buffer.length)
           (le-ltb buffer.length (view.offset + view.length) v.fits) (le-ltb (length h.binary) buffer.length v.held);
       enough = ap (view_is (λ w. nat_lt (8 * w.length) n)) v.view_is_there ∙ le-ltb (8 * view.length) n v.many;
       counted = ap (λ l. not (ones bits == ones l)) raw ∙ ap not (eq-eqb (ones bits) (ones bits) refl);
@@ -151,10 +151,10 @@ named p false before bits after e =
     (constant_names (held_with (streams_of (before ++ bits ∷ after)) p) bits e)
 named p true before bits after e =
     let chosen : streams_of (before ++ bits ∷ after) ≡ streams_of before ++ bits ∷ streams_of after =
-        streams_of-append before (bits ∷ after) ∙ ap (λ l. streams_of before ++ l) (streams_of-append (bits ∷ []) after ∙ ap (λ l. l ++ streams_of after) (one_stream bits e)) in
+    streams_of-append before (bits ∷ after) ∙ ap (λ l. streams_of before ++ l) (streams_of-append (bits ∷ []) after ∙ ap (λ l. l ++ streams_of after) (one_stream bits e)) in
     let h = held_with (streams_of before ++ bits ∷ streams_of after) p in
     let names = stream_names h (length (streams_of before)) (view_record (0 + length (stream_bytes (streams_of before))) (bytes_filled (length bits)))
-        (record { length = length (stream_bytes (streams_of before ++ bits ∷ streams_of after)); external = false }) bits (views_there p (streams_of before) bits (streams_of after)) in
+    (record { length = length (stream_bytes (streams_of before ++ bits ∷ streams_of after)); external = false }) bits (views_there p (streams_of before) bits (streams_of after)) in
     subst (λ a. Names (held_with (streams_of (before ++ bits ∷ after)) p) a bits) (sym (ap (λ b. cond b (stream (length (streams_of before)) (Some (ones bits))) (constant (has_one bits))) e))
     (subst (λ xs. Names (held_with xs p) (stream (length (streams_of before)) (Some (ones bits))) bits) (sym chosen) names)
 
@@ -177,6 +177,7 @@ all_name tiles contents child all before [] after e = tt
 all_name tiles contents child all before (bits ∷ some) after e =
     let h = held_of (streams_of all) tiles contents child in
     let more : length (streams_of (before ++ bits ∷ [])) ≡ length (streams_of before) + length (streams_of (bits ∷ [])) =
-        ap length (streams_of-append before (bits ∷ [])) ∙ length-append (streams_of before) (streams_of (bits ∷ [])) in
-    (names_own tiles contents child all before bits (some ++ after) e,
-     subst (λ n. AllName h (all_stated n some) some) more (all_name tiles contents child all (before ++ bits ∷ []) some after (e ∙ sym (append_assoc before (bits ∷ []) (some ++ after)))))
+    ap length (streams_of-append before (bits ∷ [])) ∙ length-append (streams_of before) (streams_of (bits ∷ [])) in (
+      names_own tiles contents child all before bits (some ++ after) e,
+      subst (λ n. AllName h (all_stated n some) some) more (all_name tiles contents child all (before ++ bits ∷ []) some after (e ∙ sym (append_assoc before (bits ∷ []) (some ++ after)))),
+    )

@@ -8,3 +8,4 @@ pub mod ReadValues
 pub mod Header
 pub mod ReadRecord
 pub mod Held
+pub mod ReadBack

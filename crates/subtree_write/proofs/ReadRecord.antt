@@ -125,16 +125,16 @@ record_stated part bitstreams size a b c tiles contents child e =
     let content = ap (list_read content_of) (contents_member vs size t cs d) ∙ list_read-listed content_of cs (map well_formed (all_stated b contents)) (contents_stated b contents) in
     let below = ap (option_and_then availability_of) (child_member vs size t cs d) ∙ availability_stated c child in
     ap (λ o. need 7 o (λ any. need 8 (object_of any) (λ v.
-      need 9 (list_read buffer_of (get (codes "buffers") v)) (λ bs. need 10 (list_read view_of (get (codes "bufferViews") v)) (λ ws.
-      need 11 (availability_at (codes "tileAvailability") v) (λ x. need 11 (list_read content_of (get (codes "contentAvailability") v)) (λ ys.
-      need 11 (availability_at (codes "childSubtreeAvailability") v) (λ z. Ok (record_from bs ws x ys z))))))))) e
+    need 9 (list_read buffer_of (get (codes "buffers") v)) (λ bs. need 10 (list_read view_of (get (codes "bufferViews") v)) (λ ws.
+    need 11 (availability_at (codes "tileAvailability") v) (λ x. need 11 (list_read content_of (get (codes "contentAvailability") v)) (λ ys.
+    need 11 (availability_at (codes "childSubtreeAvailability") v) (λ z. Ok (record_from bs ws x ys z))))))))) e
     ∙ ap (λ o. need 9 o (λ bs. need 10 (list_read view_of (get (codes "bufferViews") value)) (λ ws.
-      need 11 (availability_at (codes "tileAvailability") value) (λ x. need 11 (list_read content_of (get (codes "contentAvailability") value)) (λ ys.
-      need 11 (availability_at (codes "childSubtreeAvailability") value) (λ z. Ok (record_from bs ws x ys z))))))) buffers
+    need 11 (availability_at (codes "tileAvailability") value) (λ x. need 11 (list_read content_of (get (codes "contentAvailability") value)) (λ ys.
+    need 11 (availability_at (codes "childSubtreeAvailability") value) (λ z. Ok (record_from bs ws x ys z))))))) buffers
     ∙ ap (λ o. need 10 o (λ ws. need 11 (availability_at (codes "tileAvailability") value) (λ x. need 11 (list_read content_of (get (codes "contentAvailability") value)) (λ ys.
-      need 11 (availability_at (codes "childSubtreeAvailability") value) (λ z. Ok (record_from (buffer_records size (view_records 0 bitstreams)) ws x ys z)))))) views
+    need 11 (availability_at (codes "childSubtreeAvailability") value) (λ z. Ok (record_from (buffer_records size (view_records 0 bitstreams)) ws x ys z)))))) views
     ∙ ap (λ o. need 11 o (λ x. need 11 (list_read content_of (get (codes "contentAvailability") value)) (λ ys.
-      need 11 (availability_at (codes "childSubtreeAvailability") value) (λ z. Ok (record_from (buffer_records size (view_records 0 bitstreams)) (view_records 0 bitstreams) x ys z))))) tile
+    need 11 (availability_at (codes "childSubtreeAvailability") value) (λ z. Ok (record_from (buffer_records size (view_records 0 bitstreams)) (view_records 0 bitstreams) x ys z))))) tile
     ∙ ap (λ o. need 11 o (λ ys. need 11 (availability_at (codes "childSubtreeAvailability") value) (λ z.
-      Ok (record_from (buffer_records size (view_records 0 bitstreams)) (view_records 0 bitstreams) (stated a tiles) ys z)))) content
+    Ok (record_from (buffer_records size (view_records 0 bitstreams)) (view_records 0 bitstreams) (stated a tiles) ys z)))) content
     ∙ ap (λ o. need 11 o (λ z. Ok (record_from (buffer_records size (view_records 0 bitstreams)) (view_records 0 bitstreams) (stated a tiles) (map well_formed (all_stated b contents)) z))) below

@@ -149,9 +149,9 @@ list_step a name (value ∷ values) ms found rs = member_step name (array (items
 
 in_order : (views : List Data) (size : ℕ) (tiles : Data) (contents : List Data) (child : Data)
     → put (codes "tileAvailability") tiles (with_list (codes "contentAvailability") contents (put (codes "childSubtreeAvailability") child
-      (with_list (codes "buffers") (buffer_values size views) (with_list (codes "bufferViews") views no_members))))
+    (with_list (codes "buffers") (buffer_values size views) (with_list (codes "bufferViews") views no_members))))
     ≡ list_member (codes "bufferViews") views (list_member (codes "buffers") (buffer_values size views) (member (codes "childSubtreeAvailability") child
-      (list_member (codes "contentAvailability") contents (member (codes "tileAvailability") tiles no_members))))
+    (list_member (codes "contentAvailability") contents (member (codes "tileAvailability") tiles no_members))))
 in_order [] size tiles [] child = refl
 in_order [] size tiles (content ∷ contents) child = refl
 in_order (view ∷ views) size tiles [] child = refl

@@ -50,7 +50,7 @@ read_text d n long r =
     let j = outline d in
     let ts = tree.json_tokens j in
     ap (λ us. option_and_then of_json (option_and_then (λ p. json.if_last p.0 p.1) (json.value max_depth us)))
-      (ap (λ l. tokens (l ++ replicate n 32)) (sym (print-outline d)) ∙ tokens-spaces ts n (ArePrintable-json_tokens j r.numbers) ∙ sym (append-nil ts))
+    (ap (λ l. tokens (l ++ replicate n 32)) (sym (print-outline d)) ∙ tokens-spaces ts n (ArePrintable-json_tokens j r.numbers) ∙ sym (append-nil ts))
     ∙ ap (λ o. option_and_then of_json (option_and_then (λ p. json.if_last p.0 p.1) o)) (value-json_tokens j max_depth [] (omega (arith, r.shallow)))
     ∙ r.whole
 
@@ -120,7 +120,7 @@ member_reads deep a b long name d ms n r rs fits =
       numbers = (r.numbers, rs.numbers);
       shallow = omega (arith, r.shallow, rs.shallow);
       utf8 = λ later. IsUtf8-append (comma_if later) (quoted name ++ 58 ∷ rest) (comma_utf8 later)
-        (IsUtf8-append (quoted name) (58 ∷ rest) (IsUtf8-quoted name n.ascii) (ascii_first 58 rest (IsUtf8-are_ascii (58 ∷ []) refl) (IsUtf8-append (compact_text d) (members_text true ms) r.utf8 (rs.utf8 true))));
+          (IsUtf8-append (quoted name) (58 ∷ rest) (IsUtf8-quoted name n.ascii) (ascii_first 58 rest (IsUtf8-are_ascii (58 ∷ []) refl) (IsUtf8-append (compact_text d) (members_text true ms) r.utf8 (rs.utf8 true))));
       short = λ later. omega (arith, length-append (comma_if later) (quoted name ++ 58 ∷ rest), length-append (quoted name) (58 ∷ rest), length-append (compact_text d) (members_text true ms), comma_short later, n.short, r.short, rs.short true);
     }
 

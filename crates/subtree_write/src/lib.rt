@@ -3,7 +3,11 @@
 #![tactic(auto)]
 
 mod file;
+pub mod file_laws;
 mod streams;
 mod values;
 
 pub use file::encode;
+
+#[cfg(test)]
+mod tests;
