@@ -1,12 +1,12 @@
 -- The bits that a canonical record names in its bytes.
-use Rattle.std.proofs.Common.{◌≡◌, ◌∙◌, ℕ, zero, suc, ◌+◌, ◌-◌, ◌*◌, ◌/◌, ◌≤◌, ◌&&◌, ◌||◌, ◌==◌, Bool, true, false, not, nat_lt, cond, List, [], ◌∷◌, ◌++◌, length, get_or, map, take, drop, replicate, Option, Some, None, append_assoc, length-append, ◌<◌, refl, sym, ap, ap₂, subst, arith}
+use Rattle.std.proofs.Common.{◌≡◌, ◌∙◌, ℕ, ◌+◌, ◌-◌, ◌*◌, ◌≤◌, ◌&&◌, ◌||◌, ◌==◌, Bool, true, false, not, nat_lt, cond, List, [], ◌∷◌, ◌++◌, length, map, take, drop, replicate, Some, append_assoc, length-append, ◌<◌, refl, sym, ap, ap₂, subst, arith}
 use Rattle.std.specs.List.{range_with_len, slice_get, slice_range, list_any}
 use Rattle.std.proofs.Math.Seq.{take-append_seam, drop-append_seam}
 use Rattle.std.proofs.lemmas.Bool.{le-ltb, eq-eqb}
 use Rattle.std.proofs.lemmas.List.{ext_get_or, get_or-replicate, length-replicate}
 use Rattle.std.proofs.lemmas.List.FromFn.{length-map-range_with_len, get_or-map-range_with_len}
-use Rattle.implicit_tileset.specs.Record.{Buffer, BufferView, Availability, constant, stream, ContentPart, SubtreeRecord}
-use Rattle.implicit_tileset.specs.SubtreeFile.{Used, Held, view_named, buffer_named, view_is, buffer_is, is_none, names_no_view, is_external, is_out, is_short, view_bit, raw_bit, raw_bits, is_other_count, is_miscounted_as, is_miscounted, bit_of_bytes}
+use Rattle.implicit_tileset.specs.Record.{Buffer, BufferView, Availability, constant, stream, ContentPart}
+use Rattle.implicit_tileset.specs.SubtreeFile.{Used, Held, buffer_named, view_is, buffer_is, is_none, names_no_view, is_external, is_out, is_short, view_bit, raw_bits, is_miscounted, bit_of_bytes}
 use Rattle.bitstream.specs.Bytes.{bytes_filled, bytes_of_bits}
 use Rattle.bitstream.proofs.Bytes.{length-bytes_of_bits, bits_of_bytes-bytes_of_bits}
 use Rattle.subtree_write.specs.Canonical.{aligned, padded, is_mixed, has_one, streams_of, stream_bytes}

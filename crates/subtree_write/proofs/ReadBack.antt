@@ -1,6 +1,6 @@
 -- A canonical file holds its subtree.
-use Rattle.std.proofs.Common.{◌≡◌, ◌∙◌, ℕ, zero, suc, ◌+◌, ◌-◌, ◌*◌, ◌/◌, ◌^◌, ◌<◌, ◌≤◌, ◌||◌, Bool, true, false, cond, List, [], ◌∷◌, ◌++◌, length, get_or, map, take, Option, Some, None, option_map, append_assoc, length-append, refl, sym, ap, ap₂, subst, lit<, arith}
-use Rattle.std.specs.Prelude.{Result, Ok, Err}
+use Rattle.std.proofs.Common.{◌≡◌, ◌∙◌, ℕ, suc, ◌+◌, ◌-◌, ◌*◌, ◌^◌, ◌<◌, ◌≤◌, ◌||◌, Bool, true, false, cond, List, [], ◌∷◌, ◌++◌, length, map, take, Some, option_map, length-append, refl, sym, ap, ap₂, subst, lit<, arith}
+use Rattle.std.specs.Prelude.{Result, Ok}
 use Rattle.std.specs.List.{list_any, All}
 use Rattle.std.proofs.Math.Nat.{pow-le-pow_right}
 use Rattle.std.proofs.lemmas.List.{take_all}
@@ -9,19 +9,19 @@ use Rattle.implicit_tiling.specs.declared.Scheme.{Scheme}
 use Rattle.implicit_tiling.specs.declared.Scheme.TheVariants.{Quad, Oct}
 use Rattle.implicit_tiling.specs.Checks.{refuse, need}
 use Rattle.implicit_tiling.specs.Limits.{most_subtree_levels}
-use Rattle.implicit_tiling.specs.Tile.{Tile, branching}
+use Rattle.implicit_tiling.specs.Tile.{Tile}
 use Rattle.implicit_tiling.specs.Scene.{Layout}
 use Rattle.implicit_tiling.specs.Subtree.{Subtree, IsSubtree, IsOf, node_count, child_count}
-use Rattle.implicit_tileset.specs.Record.{Availability, ContentPart, well_formed, SubtreeRecord, record_of}
-use Rattle.implicit_tileset.specs.SubtreeFile.{Parts, Used, Held, names_no_view, is_external, is_out, is_short, is_miscounted, raw_bits, parts_of, and_then, availabilities, for_nodes, for_children, used_of, subtree_from, subtree_checked, subtree_held, subtree_recorded, subtree_of}
-use Rattle.subtree_write.specs.Canonical.{aligned, padded, is_mixed, streams_of, availabilities as availabilities_in, streams, binary, stream_bytes, view_values, availability_value, availability_values, file_value, json_value, json_part, file_of, canonical}
+use Rattle.implicit_tileset.specs.Record.{Availability, well_formed, SubtreeRecord, record_of}
+use Rattle.implicit_tileset.specs.SubtreeFile.{Used, Held, names_no_view, is_external, is_out, is_short, is_miscounted, raw_bits, parts_of, and_then, availabilities, used_of, subtree_from, subtree_checked, subtree_held, subtree_recorded, subtree_of}
+use Rattle.subtree_write.specs.Canonical.{aligned, padded, is_mixed, streams_of, availabilities as availabilities_in, streams, binary, stream_bytes, view_values, availability_value, availability_values, json_value, json_part, canonical}
 use Rattle.subtree_write.specs.Reading.{KeepsRules, CanonicalFilesReadBack}
 use Rattle.subtree_write.proofs.Added.{length-padded, length-stream}
 use Rattle.bitstream.specs.Bytes.{bytes_filled, bytes_of_bits}
 use Rattle.subtree_write.proofs.Texts.{ReadsAs, ItemsRead, json_of-text, reads_more}
 use Rattle.subtree_write.proofs.ReadValues.{AreShort, views_read, availabilities_read, availability_reads, file_reads}
 use Rattle.subtree_write.proofs.Header.{parts_of-file}
-use Rattle.subtree_write.proofs.ReadRecord.{view_records, buffer_records, stated, all_stated, record_from, record_stated}
+use Rattle.subtree_write.proofs.ReadRecord.{stated, all_stated, record_stated}
 use Rattle.subtree_write.proofs.Held.{used, Names, AllName, held_of, names_own, all_name}
 
 -- ---- sizes

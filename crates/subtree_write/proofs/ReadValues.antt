@@ -1,13 +1,13 @@
 -- Each value of a canonical file reads back.
-use Rattle.std.proofs.Common.{◌≡◌, ◌∙◌, ℕ, zero, suc, ◌+◌, ◌*◌, ◌/◌, ◌^◌, ◌<◌, ◌≤◌, Bool, true, false, cond, List, [], ◌∷◌, ◌++◌, length, codes, Some, refl, sym, ap, arith}
+use Rattle.std.proofs.Common.{◌≡◌, ◌∙◌, ℕ, ◌+◌, ◌*◌, ◌^◌, ◌<◌, ◌≤◌, Bool, true, false, cond, List, [], ◌∷◌, length, codes, Some, refl, ap, arith}
 use Rattle.json.specs.Print.{escape_byte}
 use Rattle.json.proofs.Printed.Utf8.{IsUtf8-are_ascii}
-use Rattle.serde_json.specs.Data.{Num, unsigned, Data, number, array, object, Items, no_items, item, Members, no_members, member, put}
+use Rattle.serde_json.specs.Data.{Data, array, object, no_items, Members, no_members, member, put}
 use Rattle.serde_json.specs.Read.{of_members}
 use Rattle.serde_json.specs.View.{items_of}
-use Rattle.serde_json.specs.Written.{outline, members_outline}
+use Rattle.serde_json.specs.Written.{members_outline}
 use Rattle.bitstream.specs.Bytes.{bytes_filled}
-use Rattle.subtree_write.specs.Canonical.{aligned, is_mixed, has_one, streams_of, stream_bytes, whole_number, view_value, view_values, buffer_values, constant_value, stream_value, availability_value, availability_values, list_member, file_value}
+use Rattle.subtree_write.specs.Canonical.{aligned, is_mixed, has_one, streams_of, whole_number, view_value, view_values, buffer_values, constant_value, stream_value, availability_value, availability_values, list_member, file_value}
 use Rattle.subtree_write.specs.Members.{with_list}
 use Rattle.subtree_write.proofs.Mixed.{ones, ones-le}
 use Rattle.subtree_write.proofs.Texts.{ReadsAs, ItemsRead, MembersRead, IsName, number_reads, no_items_read, item_reads, array_reads, no_members_read, member_reads, object_reads, member_step, reads_more}
