@@ -1,9 +1,12 @@
 // Bits: a constant or a bitstream.
-ghost use Rattle.std.specs.Prelude.{◌≡◌, ◌*◌, ◌<◌, ◌≤◌, ◌↔◌, IfSome, IsNone, MatchBool, MatchOption, length, replicate, take};
+ghost use Rattle.std.specs.Prelude.{◌≡◌, ◌*◌, ◌<◌, ◌≤◌, ◌↔◌, ◌++◌, OnOk, OnErr, IfSome, IsNone, MatchBool, MatchOption, length, replicate, take};
 ghost use Rattle.bitstream.specs.Bits.{bit_at, bits_of_bytes, ones_of, HasNoOne, IsFirstOne, IsWithin, HasOneAlone};
+ghost use Rattle.bitstream.specs.Bytes.{bytes_of_bits};
 
+use crate::append::{append_constant, append_front};
 use crate::within::has_all_of;
 use crate::words::{first_one_in, ones_in};
+use std::alloc::AllocError;
 use std::marker::Model;
 
 /// How bits are held.
@@ -112,6 +115,18 @@ impl Bits {
             (Kind::Bytes { bytes, .. }, Kind::Bytes { bytes: others, .. }) => {
                 has_all_of(others, bytes, n)
             }
+        }
+    }
+
+    /// Appends the bits as a bitstream, with bit i as bit i mod 8 of byte i / 8: as few bytes as they fill, and unused
+    /// bits are 0. An Err leaves `out` as it was.
+    pub fn append_bytes(&self, out: &mut Vec<u8>) -> Result<(), AllocError>
+        ensures ok { OnOk result (out.new.items ≡ out.old.items ++ bytes_of_bits self.now) }
+        ensures err { OnErr result (out.new.items ≡ out.old.items) }
+    {
+        match &self.kind {
+            Kind::Constant { bit, count } => append_constant(*bit, *count, out),
+            Kind::Bytes { bytes, count } => append_front(bytes, *count, out),
         }
     }
 }

@@ -1,7 +1,9 @@
-//! Bits in order, as a constant or as the bytes of a bitstream: read one by one, counted, and searched by words.
+//! Bits in order, as a constant or as the bytes of a bitstream: read one by one, counted, searched by words,
+//! and written as bytes.
 //! Contracts see them as the list of the bits.
 #![tactic(auto)]
 
+mod append;
 mod bits;
 mod within;
 mod words;

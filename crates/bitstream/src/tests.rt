@@ -54,5 +54,9 @@ fn a_plain_loop_agrees(rt: HostRuntime) -> Result<(), Fail> {
         assert!(rt; bits.next_one(n, n + 1).is_some() == bit);
         ones = ones.wrapping_add(u64::from(bit));
     }
+    let mut written = vec![in rt.alloc(); 7u8; 1]?;
+    bits.append_bytes(&mut written)?;
+    Bits::constant(true, 3).append_bytes(&mut written)?;
+    assert!(rt; written.len() == 35 && written.first() == Some(&7) && written.last() == Some(&7));
     Ok(())
 }

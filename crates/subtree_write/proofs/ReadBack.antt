@@ -1,0 +1,237 @@
+-- A canonical file holds its subtree.
+use Rattle.std.proofs.Common.{◌≡◌, ◌∙◌, ℕ, suc, ◌+◌, ◌-◌, ◌*◌, ◌^◌, ◌<◌, ◌≤◌, ◌||◌, Bool, true, false, cond, List, [], ◌∷◌, ◌++◌, length, map, take, Some, option_map, length-append, refl, sym, ap, ap₂, subst, lit<, arith}
+use Rattle.std.specs.Prelude.{Result, Ok}
+use Rattle.std.specs.List.{list_any, All}
+use Rattle.std.proofs.Math.Nat.{pow-le-pow_right}
+use Rattle.std.proofs.lemmas.List.{take_all}
+use Rattle.serde_json.specs.Written.{compact_text}
+use Rattle.implicit_tiling.specs.declared.Scheme.{Scheme}
+use Rattle.implicit_tiling.specs.declared.Scheme.TheVariants.{Quad, Oct}
+use Rattle.implicit_tiling.specs.Checks.{refuse, need}
+use Rattle.implicit_tiling.specs.Limits.{most_subtree_levels}
+use Rattle.implicit_tiling.specs.Tile.{Tile}
+use Rattle.implicit_tiling.specs.Scene.{Layout}
+use Rattle.implicit_tiling.specs.Subtree.{Subtree, IsSubtree, IsOf, node_count, child_count}
+use Rattle.implicit_tileset.specs.Record.{Availability, well_formed, SubtreeRecord, record_of}
+use Rattle.implicit_tileset.specs.SubtreeFile.{Used, Held, names_no_view, is_external, is_out, is_short, is_miscounted, raw_bits, parts_of, and_then, availabilities, used_of, subtree_from, subtree_checked, subtree_held, subtree_recorded, subtree_of}
+use Rattle.subtree_write.specs.Canonical.{aligned, padded, is_mixed, streams_of, availabilities as availabilities_in, streams, binary, stream_bytes, view_values, availability_value, availability_values, json_value, json_part, canonical}
+use Rattle.subtree_write.specs.Reading.{KeepsRules, CanonicalFilesReadBack}
+use Rattle.subtree_write.proofs.Added.{length-padded, length-stream}
+use Rattle.bitstream.specs.Bytes.{bytes_filled, bytes_of_bits}
+use Rattle.subtree_write.proofs.Texts.{ReadsAs, ItemsRead, json_of-text, reads_more}
+use Rattle.subtree_write.proofs.ReadValues.{AreShort, views_read, availabilities_read, availability_reads, file_reads}
+use Rattle.subtree_write.proofs.Header.{parts_of-file}
+use Rattle.subtree_write.proofs.ReadRecord.{stated, all_stated, record_stated}
+use Rattle.subtree_write.proofs.Held.{used, Names, AllName, held_of, names_own, all_name}
+
+-- ---- sizes
+
+nodes_fit : (scheme : Scheme) (levels : ℕ) → levels ≤ most_subtree_levels scheme → (node_count scheme levels ≤ 2 ^ 21) × (child_count scheme levels ≤ 2 ^ 21)
+nodes_fit Quad levels h =
+    let few : 4 ^ levels ≤ 4 ^ 10 = pow-le-pow_right (lit< tt) h in
+    (omega arith, omega arith)
+nodes_fit Oct levels h =
+    let few : 8 ^ levels ≤ 8 ^ 7 = pow-le-pow_right (lit< tt) h in
+    (omega arith, omega arith)
+
+contents_short : (n : ℕ) (contents : List (List Bool)) (last : List Bool) → n ≤ 2 ^ 21 → length last ≤ 2 ^ 21 → All (λ bits. length bits ≡ n) contents → AreShort (contents ++ last ∷ [])
+contents_short n [] last h k all = (k, tt)
+contents_short n (bits ∷ contents) last h k all =
+    (let own = all 0 [] (omega arith) in omega arith, contents_short n contents last h k (λ i d lt. all (suc i) d (omega arith)))
+
+all_short : (s : Subtree) → IsSubtree s → AreShort (availabilities_in s)
+all_short s w =
+    let fit = nodes_fit s.scheme s.levels w.few_levels in
+    (omega (arith, fit.0, w.tile_bits), contents_short (node_count s.scheme s.levels) s.contents s.child fit.0 (omega (arith, fit.1, w.child_bits)) w.content_bits)
+
+chosen_short : (b : Bool) (bits : List Bool) (rest : List (List Bool)) → length bits ≤ 2 ^ 21 → AreShort rest → AreShort (cond b (bits ∷ rest) rest)
+chosen_short true bits rest h k = (h, k)
+chosen_short false bits rest h k = k
+
+streams_short : (all : List (List Bool)) → AreShort all → AreShort (streams_of all)
+streams_short [] h = tt
+streams_short (bits ∷ rest) h = chosen_short (is_mixed bits) bits (streams_of rest) h.0 (streams_short rest h.1)
+
+chosen_few : (b : Bool) (bits : List Bool) (rest : List (List Bool)) → length (cond b (bits ∷ rest) rest) ≤ 1 + length rest
+chosen_few true bits rest = omega arith
+chosen_few false bits rest = omega arith
+
+streams_few : (all : List (List Bool)) → length (streams_of all) ≤ length all
+streams_few [] = omega arith
+streams_few (bits ∷ rest) = omega (arith, chosen_few (is_mixed bits) bits (streams_of rest), streams_few rest)
+
+bytes_few : (xs : List (List Bool)) → AreShort xs → length (stream_bytes xs) ≤ 2 ^ 18 * length xs
+bytes_few [] h = omega arith
+bytes_few (bits ∷ rest) h =
+    let own : aligned (bytes_filled (length bits)) ≤ 2 ^ 18 = omega (arith, h.0) in
+    omega (arith, own, length-append (padded 0 (bytes_of_bits bits)) (stream_bytes rest), length-stream bits, bytes_few rest h.1)
+
+-- ---- the JSON part
+
+items_more : (long : ℕ) (ds : _) → ItemsRead 1 long ds → long ≤ 2000 → ItemsRead 1 2000 ds
+items_more long ds r h = record { whole = r.whole; numbers = r.numbers; shallow = r.shallow; utf8 = r.utf8; short = λ later. omega (arith, r.short later) }
+
+-- the availabilities of a subtree are at most ten
+ten : (s : Subtree) → IsSubtree s → length (availabilities_in s) ≤ 10
+ten s w = omega (arith, w.few_contents, length-append s.contents (s.child ∷ []))
+
+value_reads : (s : Subtree) → IsSubtree s → ReadsAs 3 5000 (json_value s)
+value_reads s w =
+    let xs = streams s in
+    let short = all_short s w in
+    let few = ten s w in
+    let views = streams_few (availabilities_in s) in
+    let fit = nodes_fit s.scheme s.levels w.few_levels in
+    let streamed = streams_short (availabilities_in s) short in
+    let first = streams_few (s.tiles ∷ []) in
+    let second = streams_few (s.tiles ∷ s.contents) in
+    file_reads (view_values 0 xs) (length (binary s)) (availability_value 0 s.tiles) (availability_values (length (streams_of (s.tiles ∷ []))) s.contents) (availability_value (length (streams_of (s.tiles ∷ s.contents))) s.child)
+    (items_more (1 + 121 * length xs) _ (views_read 0 xs streamed (omega arith)) (omega arith))
+    (omega (arith, bytes_few xs streamed))
+    (availability_reads 0 s.tiles (omega arith) short.0)
+    (items_more (1 + 121 * length s.contents) _ (availabilities_read (length (streams_of (s.tiles ∷ []))) s.contents (front_short s.contents (s.child ∷ []) short.1) (omega (arith, w.few_contents))) (omega (arith, w.few_contents)))
+    (availability_reads (length (streams_of (s.tiles ∷ s.contents))) s.child (omega (arith, w.few_contents)) (omega (arith, fit.1, w.child_bits)))
+  where
+    front_short : (xs ys : List (List Bool)) → AreShort (xs ++ ys) → AreShort xs
+    front_short [] ys h = tt
+    front_short (x ∷ xs) ys h = (h.0, front_short xs ys h.1)
+
+-- ---- no row of the table holds
+
+record Passes (h : Held) (u : Used) : Type 0 where
+  viewed : names_no_view h u.availability ≡ false
+  internal : is_external h u.availability ≡ false
+  inside : is_out h u.availability ≡ false
+  enough : is_short h u ≡ false
+  counted : is_miscounted h u ≡ false
+
+abbrev AllPass : Held → List Used → Type 0
+AllPass h [] = Unit {0}
+AllPass h (u ∷ us) = Passes h u × AllPass h us
+
+no_row : (h : Held) (test : Used → Bool) (us : List Used) → ((u : Used) → Passes h u → test u ≡ false) → AllPass h us → list_any test us ≡ false
+no_row h test [] each all = refl
+no_row h test (u ∷ us) each all = ap (λ b. b || list_any test us) (each u all.0) ∙ no_row h test us each all.1
+
+passes : (h : Held) (a : Availability) (bits : List Bool) (n : ℕ) → Names h a bits → length bits ≡ n → Passes h (used a n)
+passes h a bits n names e = subst (λ k. Passes h (used a k)) e (record { viewed = names.viewed; internal = names.internal; inside = names.inside; enough = names.enough; counted = names.counted })
+
+raw_own : (h : Held) (a : Availability) (bits : List Bool) (n : ℕ) → Names h a bits → length bits ≡ n → raw_bits h (used a n) ≡ bits
+raw_own h a bits n names e = ap (λ k. raw_bits h (used a k)) (sym e) ∙ names.raw
+
+contents_pass : (h : Held) (named : List Availability) (some : List (List Bool)) (n : ℕ) (last : Used) → AllName h named some → All (λ bits. length bits ≡ n) some → Passes h last → AllPass h (map (λ a. used a n) named ++ last ∷ [])
+contents_pass h [] [] n last names all p = (p, tt)
+contents_pass h [] (bits ∷ some) n last names all p = absurd names
+contents_pass h (a ∷ named) [] n last names all p = absurd names
+contents_pass h (a ∷ named) (bits ∷ some) n last names all p =
+    (passes h a bits n names.0 (all 0 [] (omega arith)), contents_pass h named some n last names.1 (λ i d lt. all (suc i) d (omega arith)) p)
+
+contents_own : (h : Held) (named : List Availability) (some : List (List Bool)) (n : ℕ) → AllName h named some → All (λ bits. length bits ≡ n) some → map (λ a. raw_bits h (used a n)) named ≡ some
+contents_own h [] [] n names all = refl
+contents_own h [] (bits ∷ some) n names all = absurd names
+contents_own h (a ∷ named) [] n names all = absurd names
+contents_own h (a ∷ named) (bits ∷ some) n names all =
+    ap₂ (λ b bs. b ∷ bs) (raw_own h a bits n names.0 (all 0 [] (omega arith))) (contents_own h named some n names.1 (λ i d lt. all (suc i) d (omega arith)))
+
+length-all_stated : (view : ℕ) (some : List (List Bool)) → length (all_stated view some) ≡ length some
+length-all_stated view [] = refl
+length-all_stated view (bits ∷ some) = omega (arith, length-all_stated (view + length (streams_of (bits ∷ []))) some)
+
+length_well_formed : (named : List Availability) → length (map well_formed named) ≡ length named
+length_well_formed [] = refl
+length_well_formed (a ∷ named) = omega (arith, length_well_formed named)
+
+well_formed_all : (named : List Availability) → availabilities (map well_formed named) ≡ Some named
+well_formed_all [] = refl
+well_formed_all (a ∷ named) = ap (option_map (λ l. a ∷ l)) (well_formed_all named)
+
+-- ---- the subtree that is held
+
+passed : {A : Type 0} (n : ℕ) (test : Bool) (rest : Result A ℕ) → test ≡ false → refuse n test rest ≡ rest
+passed n test rest e = ap (λ b. refuse n b rest) e
+
+rows_pass : (layout : Layout) (root : Tile) (h : Held) (contents : List Availability) (us : List Used) → AllPass h us → subtree_held layout root h contents us ≡ subtree_checked (subtree_from layout root h contents)
+rows_pass layout root h contents us all =
+    passed 12 (list_any (λ u. names_no_view h u.availability) us) _ (no_row h (λ u. names_no_view h u.availability) us (λ u p. p.viewed) all)
+    ∙ passed 13 (list_any (λ u. is_external h u.availability) us) _ (no_row h (λ u. is_external h u.availability) us (λ u p. p.internal) all)
+    ∙ passed 14 (list_any (λ u. is_out h u.availability) us) _ (no_row h (λ u. is_out h u.availability) us (λ u p. p.inside) all)
+    ∙ passed 15 (list_any (is_short h) us) _ (no_row h (is_short h) us (λ u p. p.enough) all)
+    ∙ passed 16 (list_any (is_miscounted h) us) _ (no_row h (is_miscounted h) us (λ u p. p.counted) all)
+
+checked : (s : Subtree) → KeepsRules s → subtree_checked s ≡ Ok s
+checked s rules = passed 17 _ _ rules.no_orphan ∙ passed 18 _ _ rules.no_content_alone
+
+-- a layout that has no more than the subtree's own numbers and some templates
+abbrev own_layout : Subtree → List ℕ → List (List ℕ) → Layout
+own_layout s template templates = record { scheme = s.scheme; subtree_levels = s.levels; levels = s.cut; subtree = template; contents = templates }
+
+abbrev with_bits : Subtree → List Bool → List (List Bool) → List Bool → Subtree
+with_bits s tiles contents child = record { scheme = s.scheme; levels = s.levels; cut = s.cut; root = s.root; tiles = tiles; contents = contents; child = child }
+
+record HoldsIt (h : Held) (contents : List Availability) (s : Subtree) : Type 0 where
+  tiles : Names h h.parts.tiles s.tiles
+  contents_all : AllName h contents s.contents
+  child : Names h h.parts.child s.child
+
+held_subtree : (s : Subtree) (template : List ℕ) (templates : List (List ℕ)) (h : Held) (contents : List Availability) → IsSubtree s → KeepsRules s → HoldsIt h contents s
+    → subtree_held (own_layout s template templates) s.root h contents (used_of (own_layout s template templates) h.parts contents) ≡ Ok s
+held_subtree s template templates h contents w rules holds =
+    let layout = own_layout s template templates in
+    let nodes = node_count s.scheme s.levels in
+    let children = child_count s.scheme s.levels in
+    let last = passes h h.parts.child s.child children holds.child w.child_bits in
+    let all : AllPass h (used_of layout h.parts contents) =
+    (passes h h.parts.tiles s.tiles nodes holds.tiles w.tile_bits, contents_pass h contents s.contents nodes (used h.parts.child children) holds.contents_all w.content_bits last) in
+    let same : subtree_from layout s.root h contents ≡ s =
+    ap (λ l. with_bits s l (map (λ a. raw_bits h (used a nodes)) contents) (raw_bits h (used h.parts.child children))) (raw_own h h.parts.tiles s.tiles nodes holds.tiles w.tile_bits)
+    ∙ ap (λ l. with_bits s s.tiles l (raw_bits h (used h.parts.child children))) (contents_own h contents s.contents nodes holds.contents_all w.content_bits)
+    ∙ ap (λ l. with_bits s s.tiles s.contents l) (raw_own h h.parts.child s.child children holds.child w.child_bits) in
+    rows_pass layout s.root h contents (used_of layout h.parts contents) all ∙ ap subtree_checked same ∙ checked s rules
+
+recorded : (s : Subtree) (template : List ℕ) (templates : List (List ℕ)) (h : Held) (contents : List Availability) → IsSubtree s → KeepsRules s → HoldsIt h contents s
+    → length s.contents ≤ length templates → length contents ≡ length s.contents → h.parts.contents ≡ map well_formed contents → subtree_recorded (own_layout s template templates) s.root h.binary h.parts ≡ Ok s
+recorded s template templates h contents w rules holds few long e =
+    let layout = own_layout s template templates in
+    let wanted = ap (λ l. availabilities (take (length templates) l)) e ∙ ap availabilities (take_all (length templates) (map well_formed contents) (omega (arith, length_well_formed contents))) ∙ well_formed_all contents in
+    ap (λ o. need 11 o (λ cs. subtree_held layout s.root h cs (used_of layout h.parts cs))) wanted ∙ held_subtree s template templates h contents w rules holds
+
+-- from the parts to the whole
+assembled : (layout : Layout) (root : Tile) (file json bytes : List ℕ) (r : SubtreeRecord) (s : Subtree) → parts_of file ≡ Ok (record { json = json; binary = bytes }) → record_of json ≡ Ok r
+    → subtree_recorded layout root bytes r ≡ Ok s → subtree_of layout root file ≡ Ok s
+assembled layout root file json bytes r s parts rec held =
+    ap (λ p. and_then p (λ q. and_then (record_of q.json) (subtree_recorded layout root q.binary))) parts
+    ∙ ap (λ p. and_then p (subtree_recorded layout root bytes)) rec ∙ held
+
+part_short : (text : List ℕ) → length text ≤ 5000 → length (padded 32 text) < 2 ^ 64
+part_short text h = omega (arith, length-padded 32 text)
+
+own_reads_back : (s : Subtree) (template : List ℕ) (templates : List (List ℕ)) → IsSubtree s → KeepsRules s → length s.contents ≤ length templates → subtree_of (own_layout s template templates) s.root (canonical s) ≡ Ok s
+own_reads_back s template templates w rules few =
+    let xs = streams s in
+    let reads = value_reads s w in
+    let text = compact_text (json_value s) in
+    let b = length (streams_of (s.tiles ∷ [])) in
+    let c = length (streams_of (s.tiles ∷ s.contents)) in
+    let size = length (binary s) in
+    let contents = all_stated b s.contents in
+    let h = held_of xs (stated 0 s.tiles) (map well_formed contents) (stated c s.child) in
+    let bytes_short : length (binary s) < 2 ^ 64 = omega (arith, bytes_few xs (streams_short (availabilities_in s) (all_short s w)), streams_few (availabilities_in s), ten s w) in
+    let holds : HoldsIt h contents s = record {
+      tiles = names_own (stated 0 s.tiles) (map well_formed contents) (stated c s.child) (availabilities_in s) [] s.tiles (s.contents ++ s.child ∷ []) refl;
+      contents_all = all_name (stated 0 s.tiles) (map well_formed contents) (stated c s.child) (availabilities_in s) (s.tiles ∷ []) s.contents (s.child ∷ []) refl;
+      child = names_own (stated 0 s.tiles) (map well_formed contents) (stated c s.child) (availabilities_in s) (s.tiles ∷ s.contents) s.child [] refl;
+    } in
+    assembled (own_layout s template templates) s.root (canonical s) (json_part s) (binary s) h.parts s
+    (parts_of-file (json_part s) (binary s) (part_short text reads.short) bytes_short)
+    (record_stated (json_part s) xs size 0 b c s.tiles s.contents s.child (json_of-text (json_value s) (aligned (length text) - length text) 5000 (reads_more 3 9 5000 5000 (json_value s) (omega arith) (omega arith) reads)))
+    (recorded s template templates h contents w rules holds few (length-all_stated b s.contents) refl)
+
+layout_own : (layout : Layout) (s : Subtree) → IsOf layout s → own_layout s layout.subtree layout.contents ≡ layout
+layout_own layout s of =
+    ap (λ x. record { scheme = x; subtree_levels = s.levels; levels = s.cut; subtree = layout.subtree; contents = layout.contents }) of.same_scheme
+    ∙ ap (λ n. record { scheme = layout.scheme; subtree_levels = n; levels = s.cut; subtree = layout.subtree; contents = layout.contents }) of.same_levels
+    ∙ ap (λ n. record { scheme = layout.scheme; subtree_levels = layout.subtree_levels; levels = n; subtree = layout.subtree; contents = layout.contents }) of.same_cut
+
+pub canonical_files_read_back : CanonicalFilesReadBack
+canonical_files_read_back layout s w of rules =
+    subst (λ l. subtree_of l s.root (canonical s) ≡ Ok s) (layout_own layout s of) (own_reads_back s layout.subtree layout.contents w rules of.contents_named)

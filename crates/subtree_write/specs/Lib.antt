@@ -1,0 +1,4 @@
+pub mod Canonical
+pub mod Members
+pub mod Added
+pub mod Reading
