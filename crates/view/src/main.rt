@@ -48,7 +48,5 @@ fn run(rt: &HostRuntime, words: &[String]) -> Result<Status, AllocError> {
     let mut keep = Folder::here(alloc, rt.clone()?);
     let mut input = ReadInlet::new(rt.reader());
     let mut out = WriteOutlet::new(io::writer(rt));
-    Ok(plain(
-        alloc, words, &mut files, &mut keep, &mut input, &mut out,
-    ))
+    Ok(plain(alloc, words, &mut files, &mut keep, &mut input, &mut out))
 }
