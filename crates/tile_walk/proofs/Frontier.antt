@@ -44,7 +44,7 @@ of_map : {X Y : Type 0} (P : Y → Type 0) (f : X → Y) (xs : List X) → All P
 of_map P f xs all = λ k d low. subst P (get_or-map f xs k d (f d) low) (all k (f d) (omega (arith, low, length-map xs f)))
 
 -- roots on the walk
-on_walk : (s : Scene) (region : Region) (level : ℕ) (roots : List ℕ) → map (word_tile s.layout.scheme) roots ≡ walk_roots s region level
+pub on_walk : (s : Scene) (region : Region) (level : ℕ) (roots : List ℕ) → map (word_tile s.layout.scheme) roots ≡ walk_roots s region level
     → All (λ w. is_on_walk s region (word_tile s.layout.scheme w) ≡ true) roots
 on_walk s region level roots is =
     let P : List Tile → Type 0 = All (λ r. is_on_walk s region r ≡ true) in

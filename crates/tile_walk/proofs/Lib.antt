@@ -4,3 +4,4 @@ pub mod Words
 pub mod Steps
 pub mod Walks
 pub mod Frontier
+pub mod Checking

@@ -60,7 +60,7 @@ found_after layout st region local before after roots next TooMany limits of is 
 found_after layout st region local before after roots next (Fault root n) limits of is found = absurd is
 
 -- the words of child roots are root words of the next level
-child_is_root : (layout : Layout) (st : Subtree) (region : Region) (level w : ℕ) → IsOf layout st → 1 ≤ layout.subtree_levels → st.root.level + st.levels ≡ level + 1
+pub child_is_root : (layout : Layout) (st : Subtree) (region : Region) (level w : ℕ) → IsOf layout st → 1 ≤ layout.subtree_levels → st.root.level + st.levels ≡ level + 1
     → IsNodeWord st region st.levels 1 w → IsRootWord layout (level + 1) w
 child_is_root layout st region level w of some next is = record {
   is_word = let P : Scheme → Type 0 = λ e. IsWord e w in subst P of.same_scheme is.is_word;

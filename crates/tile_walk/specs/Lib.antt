@@ -3,3 +3,4 @@ pub mod Roots
 pub mod Appended
 pub mod Walks
 pub mod Plans
+pub mod Checks

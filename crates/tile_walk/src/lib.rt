@@ -6,6 +6,8 @@ mod level;
 mod outcome;
 mod region;
 mod step;
+mod tileset;
 
 pub use outcome::{Outcome, WalkStop, read_subtree};
 pub use region::fresh;
+pub use tileset::check_all;

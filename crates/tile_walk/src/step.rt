@@ -64,6 +64,7 @@ pub(crate) fn root_tile(layout: &Layout, root: Word) -> Tile
     ensures tile { result ≡ word_tile layout.now.scheme root }
     ensures root { IsRootTile layout.now result }
     ensures level { result.level ≡ word_level root }
+    ensures some_levels { 1 ≤ layout.now.subtree_levels }
 {
     let Some(found) = tile_of(layout.scheme, root) else {
         unreachable!()

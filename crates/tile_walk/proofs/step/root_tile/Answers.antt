@@ -18,3 +18,8 @@ returns-clause-root c =
       at_start = ap (λ l. l % c.args.layout.now.subtree_levels) level ∙ c.requires.at_start;
       is_tile = let P : Scheme → Type 0 = λ e. IsTile e c.in-Some.found.tile in subst P scheme c.in-Some.ensures.is_tile;
     }
+
+pub returns-clause-some_levels : goal.returns-clause-some_levels
+returns-clause-some_levels c =
+    let levels = ap (λ (l : Layout). l.subtree_levels) c.layout.view_is in
+    omega (arith, levels, c.layout.invariant.some_subtree_levels)

@@ -1,0 +1,105 @@
+use Rattle.std.proofs.Common.{◌≡◌, ◌≤◌, ◌+◌, ◌-◌, ◌*◌, ◌%◌, ◌∙◌, ◌++◌, List, ℕ, map, take, length, refl, ap, sym, subst, arith}
+use Rattle.std.specs.Prelude.{false}
+use Rattle.std.specs.List.{flat_map, All}
+use Rattle.std.proofs.lemmas.Nat.{mod-mul-add}
+use Rattle.implicit_tiling.specs.Code.{word_tile}
+use Rattle.implicit_tiling.specs.Region.{Region}
+use Rattle.implicit_tiling.specs.Scene.{Layout}
+use Rattle.implicit_tileset.specs.Scene.{scene_of}
+use Rattle.walk_laws.specs.Children.{roots_below}
+use Rattle.walk_laws.specs.Frontiers.{whole_of}
+use Rattle.tile_walk.specs.Checks.{IsOnWalk, found_faults, Counts}
+use Rattle.tile_walk.proofs.Reading.{both_told, three_told, of_told, told_same}
+use Rattle.tile_walk.proofs.Frontier.{on_walk}
+use Rattle.tile_walk.proofs.Checking.{IsCheckedTo, check_is_cut, check_goes_on, check_is_all, roots_at}
+use Rattle.tile_walk.proofs.tileset.check.Goals as goal
+
+-- a level where subtrees begin
+starts : (turn n : ℕ) → 1 ≤ n → turn * n % n ≡ 0
+starts turn n some = let whole : turn * n ≡ turn * n + 0 = omega arith in ap (λ l. l % n) whole ∙ mod-mul-add turn n 0 some
+
+-- turns that are as many as the levels
+all_turns : (turn levels n : ℕ) → 1 ≤ n → levels ≤ turn → levels ≤ turn * n
+all_turns turn levels n some le = grind arith
+
+pub check_roots-requires-clause-on_walk : goal.check_roots-requires-clause-on_walk
+check_roots-requires-clause-on_walk g c =
+    let layout = c.args.layout.now in
+    let region = c.args.region.now in
+    let level = c.loop-turn.turn * layout.subtree_levels in
+    let here = of_told (g.S.FileSource.told c.args.files.now) (λ all. IsCheckedTo (scene_of all layout) level c.loop-turn.roots.items c.loop-turn.looked c.loop-turn.found.items)
+    (λ all. All (IsOnWalk (scene_of all layout) region) c.deref.result.now)
+    (λ all at. let s = scene_of all layout in
+    let P : Region → Type 0 = λ r. All (IsOnWalk s r) c.loop-turn.roots.items in
+    let Q : List ℕ → Type 0 = All (IsOnWalk s region) in
+    subst Q (sym c.deref.ensures.value) (subst P (sym c.requires.region) (on_walk s (whole_of s) level c.loop-turn.roots.items at.tiles))) c.loop-turn.invariant.at in
+    told_same (g.S.FileSource.told c.args.files.now) (g.S.FileSource.told c.loop-turn.files) _ (sym c.loop-turn.invariant.same) here
+
+pub returns-then-end-clause-checked : goal.returns-then-end-clause-checked
+returns-then-end-clause-checked g c =
+    let layout = c.args.layout.now in
+    let level = c.loop-turn.turn * layout.subtree_levels in
+    let roots = c.loop-turn.roots.items in
+    let end = c.in_ok-end.end in
+    both_told (g.S.FileSource.told c.args.files.now) (λ all. IsCheckedTo (scene_of all layout) level roots c.loop-turn.looked c.loop-turn.found.items)
+    (λ all. c.check_roots.new.found.items ≡ c.loop-turn.found.items ++ found_faults (scene_of all layout) (take (end.looked - c.loop-turn.looked) c.deref.result.now)) _
+    (λ all at so. let s = scene_of all layout in
+    let P : List ℕ → Type 0 = λ ws. Counts c.loop-turn.looked (length ws) end in
+    check_is_cut s level roots c.loop-turn.looked c.loop-turn.found.items c.check_roots.new.found.items end at c.loop-turn.invariant.roots_are
+    (subst P c.deref.ensures.value c.in_ok-end.ensures.counted) c.if-end.true
+    (so ∙ ap (λ ws. c.loop-turn.found.items ++ found_faults s (take (end.looked - c.loop-turn.looked) ws)) c.deref.ensures.value))
+    c.loop-turn.invariant.at
+    (told_same (g.S.FileSource.told c.loop-turn.files) (g.S.FileSource.told c.args.files.now)
+    (λ all. c.check_roots.new.found.items ≡ c.loop-turn.found.items ++ found_faults (scene_of all layout) (take (end.looked - c.loop-turn.looked) c.deref.result.now))
+    c.loop-turn.invariant.same c.in_ok-end.ensures.found)
+
+pub loop-turn-preserved : goal.loop-turn-preserved
+loop-turn-preserved g c =
+    let layout = c.args.layout.now in
+    let region = c.args.region.now in
+    let turn = c.loop-turn.turn in
+    let level = turn * layout.subtree_levels in
+    let up : (turn + 1) * layout.subtree_levels ≡ level + layout.subtree_levels = omega arith in
+    let roots = c.loop-turn.roots.items in
+    let looked = c.loop-turn.looked in
+    let old = c.loop-turn.found.items in
+    let new = c.check_roots.new.found.items in
+    let next = c.check_roots.new.next.items in
+    let none = c.new-next.result.items in
+    let end = c.in_ok-end.end in
+    let f = word_tile layout.scheme in
+    let levels = ap (λ (l : Layout). l.subtree_levels) c.layout.view_is in
+    let some : 1 ≤ layout.subtree_levels = omega (arith, levels, c.layout.invariant.some_subtree_levels) in
+    record {
+      at = three_told (g.S.FileSource.told c.args.files.now) (λ all. IsCheckedTo (scene_of all layout) level roots looked old)
+          (λ all. new ≡ old ++ found_faults (scene_of all layout) (take (end.looked - looked) c.deref.result.now))
+          (λ all. end.more ≡ false → map f next ≡ map f none ++ flat_map (λ w. roots_below (scene_of all layout) region (f w)) c.deref.result.now) _
+          (λ all at so more. let s = scene_of all layout in
+          let P : List ℕ → Type 0 = λ ws. Counts looked (length ws) end in
+          check_goes_on s level ((turn + 1) * layout.subtree_levels) roots none next looked old new end some (starts turn layout.subtree_levels some) up at
+          (subst P c.deref.ensures.value c.in_ok-end.ensures.counted) c.if-end.false
+          (so ∙ ap (λ ws. old ++ found_faults s (take (end.looked - looked) ws)) c.deref.ensures.value) c.new-next.ensures.items
+          (more c.if-end.false ∙ ap (λ r. map f none ++ flat_map (λ w. roots_below s r (f w)) c.deref.result.now) c.requires.region
+          ∙ ap (λ ws. map f none ++ flat_map (λ w. roots_below s (whole_of s) (f w)) ws) c.deref.ensures.value))
+          c.loop-turn.invariant.at
+          (told_same (g.S.FileSource.told c.loop-turn.files) (g.S.FileSource.told c.args.files.now) _ c.loop-turn.invariant.same c.in_ok-end.ensures.found)
+          (told_same (g.S.FileSource.told c.loop-turn.files) (g.S.FileSource.told c.args.files.now) _ c.loop-turn.invariant.same c.in_ok-end.ensures.roots);
+      roots_are = roots_at layout (level + layout.subtree_levels) ((turn + 1) * layout.subtree_levels) next (sym up) c.in_ok-end.ensures.next;
+      faults_are = c.in_ok-end.ensures.faults;
+      few = c.in_ok-end.ensures.counted.few;
+      later = omega (arith, c.loop-turn.invariant.later, c.check_roots.ensures.later);
+      same = c.check_roots.ensures.same ∙ c.loop-turn.invariant.same;
+    }
+
+pub returns-clause-checked : goal.returns-clause-checked
+returns-clause-checked g c =
+    let layout = c.args.layout.now in
+    let level = c.loop-turn.turn * layout.subtree_levels in
+    let subtree_levels = ap (λ (l : Layout). l.subtree_levels) c.layout.view_is in
+    let levels = ap (λ (l : Layout). l.levels) c.layout.view_is in
+    let some : 1 ≤ layout.subtree_levels = omega (arith, subtree_levels, c.layout.invariant.some_subtree_levels) in
+    let some_levels : 1 ≤ layout.levels = omega (arith, levels, c.layout.invariant.some_levels) in
+    let high : layout.levels ≤ level = all_turns c.loop-turn.turn layout.levels layout.subtree_levels some (omega (arith, levels, c.loop-turn-test.false)) in
+    of_told (g.S.FileSource.told c.args.files.now) (λ all. IsCheckedTo (scene_of all layout) level c.loop-turn.roots.items c.loop-turn.looked c.loop-turn.found.items) _
+    (λ all at. check_is_all (scene_of all layout) level c.loop-turn.roots.items c.loop-turn.looked c.loop-turn.found.items (record { looked = c.loop-turn.looked; more = false })
+    some_levels high at c.loop-turn.invariant.few refl refl) c.loop-turn.invariant.at

@@ -1,0 +1,19 @@
+use Rattle.std.proofs.Common.{◌≡◌, ◌*◌, ◌≤◌}
+use Rattle.std.specs.Prelude.{IfSome}
+use Rattle.implicit_tiling.specs.Checked.{most_roots}
+use Rattle.implicit_tileset.specs.Scene.{scene_of}
+use Rattle.tile_walk.specs.Roots.{AreRoots}
+use Rattle.tile_walk.specs.Checks.{AreFaults}
+use Rattle.tile_walk.proofs.Checking.{IsCheckedTo}
+use Rattle.tile_walk.proofs.tileset.check.Given as goal
+
+abbrev pub invariant-loop-turn : goal.invariant-loop-turn
+invariant-loop-turn g l = record {
+  at : IfSome (g.S.FileSource.told l.fn.files)
+      (λ all. IsCheckedTo (scene_of all l.fn.layout) (l.turn * l.fn.layout.subtree_levels) l.roots.items l.looked l.found.items);
+  roots_are : AreRoots l.fn.layout (l.turn * l.fn.layout.subtree_levels) l.roots.items;
+  faults_are : AreFaults l.fn.layout.scheme l.found.items;
+  few : l.looked ≤ most_roots;
+  later : g.S.FileSource.faults l.fn.files ≤ g.S.FileSource.faults l.files;
+  same : g.S.FileSource.told l.files ≡ g.S.FileSource.told l.fn.files;
+}

@@ -1,0 +1,45 @@
+-- What a check of a whole tileset finds (this project's own).
+use Rattle.std.specs.Prelude.{ℕ, ◌≡◌, ◌+◌, ◌<◌, ◌≤◌, true, false, List, length, map}
+use Rattle.std.specs.List.{filter_map, All}
+use Rattle.implicit_tiling.specs.declared.Scheme.{Scheme}
+use Rattle.implicit_tiling.specs.Tile.{Tile}
+use Rattle.implicit_tiling.specs.Region.{Region}
+use Rattle.implicit_tiling.specs.Scene.{Scene}
+use Rattle.implicit_tiling.specs.Answer.{is_on_walk, fault_at}
+use Rattle.implicit_tiling.specs.Checked.{most_roots, checked}
+use Rattle.implicit_tiling.specs.Code.{word, word_tile, IsWord}
+use Rattle.tile_coords.specs.declared.walk_end.FoundFault.{FoundFault}
+use Rattle.tile_coords.specs.declared.walk_end.CheckEnd.{CheckEnd}
+
+-- a root's fault, by the root's word
+abbrev pub fault_word : Scheme → Tile × ℕ → FoundFault
+fault_word scheme found = record { root = word scheme found.0 0; number = found.1 }
+
+-- the faults of the files of some roots, in their order
+abbrev pub found_faults : Scene → List ℕ → List FoundFault
+found_faults s roots = map (fault_word s.layout.scheme) (filter_map (fault_at s) (map (word_tile s.layout.scheme) roots))
+
+abbrev pub IsOnWalk : Scene → Region → ℕ → Type 0
+IsOnWalk s region w = is_on_walk s region (word_tile s.layout.scheme w) ≡ true
+
+-- each fault is that of a root's word, and has a number of the table
+pub record IsFault (scheme : Scheme) (fault : FoundFault) : Type 0 where
+  pub is_word : IsWord scheme fault.root
+  pub some : 1 ≤ fault.number
+  pub most : fault.number ≤ 18
+
+abbrev pub AreFaults : Scheme → List FoundFault → Type 0
+AreFaults scheme found = All (IsFault scheme) found
+
+-- how many of so many roots were looked at, after some others: all, or up to the most where more follow
+pub record Counts (looked roots : ℕ) (end : CheckEnd) : Type 0 where
+  pub some : looked ≤ end.looked
+  pub few : end.looked ≤ most_roots
+  pub all : end.more ≡ false → end.looked ≡ looked + roots
+  pub cut : end.more ≡ true → (end.looked ≡ most_roots) × (end.looked < looked + roots)
+
+-- the faults and the end are those of the check of a scene
+pub record IsCheck (s : Scene) (found : List FoundFault) (end : CheckEnd) : Type 0 where
+  pub faults_are : found ≡ map (fault_word s.layout.scheme) (checked s).faults
+  pub looked_is : end.looked ≡ length (checked s).looked
+  pub more_is : end.more ≡ (checked s).more

@@ -1,0 +1,206 @@
+// The check of all subtree files of a tileset.
+ghost use Rattle.std.specs.Prelude.{◌≡◌, ◌+◌, ◌-◌, ◌*◌, ◌≤◌, ◌++◌, ◌∷◌, [], map, take, length, false, IfOk, IfErr, IfSome, Err};
+ghost use Rattle.std.specs.List.{All, flat_map};
+ghost use Rattle.implicit_tiling.specs.Checked.{most_roots, checked};
+ghost use Rattle.implicit_tiling.specs.Tile.{depth_of};
+ghost use Rattle.implicit_tiling.specs.Subtree.{IsSubtree};
+ghost use Rattle.implicit_tiling.specs.Nodes.{child_words};
+ghost use Rattle.implicit_tiling.specs.Code.{word_level, word_tile};
+ghost use Rattle.implicit_tileset.specs.Scene.{scene_of};
+ghost use Rattle.scene_ports.specs.Counts.{Rose};
+ghost use Rattle.walk_laws.specs.Children.{roots_below};
+ghost use Rattle.walk_laws.specs.Regions.{whole};
+ghost use Rattle.tile_walk.specs.Checks.{found_faults, Counts, IsOnWalk, IsCheck, AreFaults};
+ghost use Rattle.tile_walk.specs.Roots.{IsRootWord, AreRoots};
+
+use crate::outcome::{Outcome, WalkStop, read_subtree};
+use crate::region::first_roots;
+use crate::step::root_tile;
+use availability::Subtree;
+use region_scan::child_roots;
+use scene_ports::FileSource;
+use std::alloc::{AllocError, Global};
+use tile_coords::{CheckEnd, FoundFault, Region, Scheme, Word};
+use tileset_json::Layout;
+
+// The most roots that are looked at (this project's own).
+const MOST_ROOTS: u64 = 65536;
+
+/// Looks at the subtree roots that are reached, in key order, up to 65,536 of them, each read once: `found` becomes the
+/// faults of their files, in that order. A faulty file has no roots below it (OGC 22-025r4, implicit tiling: child subtree
+/// availability). An Err leaves `found` as it was.
+pub fn check_all<S: FileSource>(
+    alloc: Global,
+    files: &mut S,
+    layout: &Layout,
+    found: &mut Vec<FoundFault>,
+) -> Result<CheckEnd, WalkStop>
+    ensures checked { IfSome (S.told files.old) (λ all. IfOk result (IsCheck (scene_of all layout.now) found.new.items)) }
+    ensures faults { IfOk result (λ end. AreFaults layout.now.scheme found.new.items) }
+    ensures few { IfOk result (λ end. end.looked ≤ most_roots) }
+    ensures unchanged { IfErr result (λ stop. found.new.items ≡ found.old.items) }
+    ensures failed { result ≡ Err WalkStop.ReadFault → Rose (S.faults files.old) (S.faults files.new) }
+    ensures later { S.faults files.old ≤ S.faults files.new }
+    ensures same { S.told files.new ≡ S.told files.old }
+{
+    let region = whole_region(layout);
+    let mut faults = Vec::new(alloc);
+    let end = check(alloc, files, layout, &region, &mut faults)?;
+    *found = faults;
+    Ok(end)
+}
+
+// The region of all tiles.
+fn whole_region(layout: &Layout) -> Region
+    ensures { result ≡ whole layout.now.scheme layout.now.levels }
+{
+    let level = layout.levels - 1;
+    let last = (1u32 << level) - 1;
+    let hi = [last, last, depth(layout.scheme, last)];
+    Region {
+        level,
+        lo: [0, 0, 0],
+        hi,
+    }
+}
+
+// The third coordinate, as far as the scheme has one.
+fn depth(scheme: Scheme, z: u32) -> u32
+    ensures { result ≡ depth_of scheme z }
+{
+    match scheme {
+        Scheme::Quad => 0,
+        Scheme::Oct => z,
+    }
+}
+
+// The check, frontier by frontier, over the region of all tiles: each turn goes down by one subtree.
+fn check<S: FileSource>(
+    alloc: Global,
+    files: &mut S,
+    layout: &Layout,
+    region: &Region,
+    found: &mut Vec<FoundFault>,
+) -> Result<CheckEnd, WalkStop>
+    requires region { region.now ≡ whole layout.now.scheme layout.now.levels }
+    requires empty { found.old.items ≡ [] }
+    ensures checked { IfSome (S.told files.old) (λ all. IfOk result (IsCheck (scene_of all layout.now) found.new.items)) }
+    ensures faults { IfOk result (λ end. AreFaults layout.now.scheme found.new.items) }
+    ensures few { IfOk result (λ end. end.looked ≤ most_roots) }
+    ensures failed { result ≡ Err WalkStop.ReadFault → Rose (S.faults files.old) (S.faults files.new) }
+    ensures later { S.faults files.old ≤ S.faults files.new }
+    ensures same { S.told files.new ≡ S.told files.old }
+{
+    let mut looked = 0;
+    let mut roots = first_roots(alloc, layout.scheme)?;
+    for turn in 0..layout.levels {
+        let mut next = Vec::new(alloc);
+        let end = check_roots(
+            alloc, files, layout, region, turn, looked, &roots, found, &mut next,
+        )?;
+        if end.more {
+            return Ok(end);
+        }
+        looked = end.looked;
+        roots = next;
+    }
+    Ok(CheckEnd {
+        looked,
+        more: false,
+    })
+}
+
+// Looks at the roots of a frontier, which stands `turn` subtrees below the root, as far as they are not too many.
+fn check_roots<S: FileSource>(
+    alloc: Global,
+    files: &mut S,
+    layout: &Layout,
+    region: &Region,
+    turn: u32,
+    looked: u64,
+    roots: &[Word],
+    found: &mut Vec<FoundFault>,
+    next: &mut Vec<Word>,
+) -> Result<CheckEnd, WalkStop>
+    requires roots { AreRoots layout.now (turn * layout.now.subtree_levels) roots.now }
+    requires next { AreRoots layout.now (turn * layout.now.subtree_levels + layout.now.subtree_levels) next.old.items }
+    requires faults { AreFaults layout.now.scheme found.old.items }
+    requires few { looked ≤ most_roots }
+    requires on_walk { IfSome (S.told files.old) (λ all. All (IsOnWalk (scene_of all layout.now) region.now) roots.now) }
+    ensures found { IfSome (S.told files.old) (λ all. IfOk result (λ end. found.new.items ≡ found.old.items ++ found_faults (scene_of all layout.now) (take (end.looked - looked) roots.now))) }
+    ensures roots { IfSome (S.told files.old) (λ all. IfOk result (λ end. end.more ≡ false → map (word_tile layout.now.scheme) next.new.items ≡ map (word_tile layout.now.scheme) next.old.items ++ flat_map (λ w. roots_below (scene_of all layout.now) region.now (word_tile layout.now.scheme w)) roots.now)) }
+    ensures next { IfOk result (λ end. AreRoots layout.now (turn * layout.now.subtree_levels + layout.now.subtree_levels) next.new.items) }
+    ensures faults { IfOk result (λ end. AreFaults layout.now.scheme found.new.items) }
+    ensures counted { IfOk result (Counts looked (length roots.now)) }
+    ensures failed { result ≡ Err WalkStop.ReadFault → Rose (S.faults files.old) (S.faults files.new) }
+    ensures later { S.faults files.old ≤ S.faults files.new }
+    ensures same { S.told files.new ≡ S.told files.old }
+{
+    let mut count = looked;
+    for root in roots {
+        if count == MOST_ROOTS {
+            return Ok(CheckEnd {
+                looked: count,
+                more: true,
+            });
+        }
+        check_root(alloc, files, layout, region, *root, found, next)?;
+        count += 1;
+    }
+    Ok(CheckEnd {
+        looked: count,
+        more: false,
+    })
+}
+
+// Looks at one root: its fault is noted, or its child roots are.
+fn check_root<S: FileSource>(
+    alloc: Global,
+    files: &mut S,
+    layout: &Layout,
+    region: &Region,
+    root: Word,
+    found: &mut Vec<FoundFault>,
+    next: &mut Vec<Word>,
+) -> Result<(), WalkStop>
+    requires root { IsRootWord layout.now (word_level root) root }
+    requires next { AreRoots layout.now (word_level root + layout.now.subtree_levels) next.old.items }
+    requires faults { AreFaults layout.now.scheme found.old.items }
+    requires on_walk { IfSome (S.told files.old) (λ all. IsOnWalk (scene_of all layout.now) region.now root) }
+    ensures found { IfSome (S.told files.old) (λ all. IfOk result (λ done. found.new.items ≡ found.old.items ++ found_faults (scene_of all layout.now) (root ∷ []))) }
+    ensures roots { IfSome (S.told files.old) (λ all. IfOk result (λ done. map (word_tile layout.now.scheme) next.new.items ≡ map (word_tile layout.now.scheme) next.old.items ++ roots_below (scene_of all layout.now) region.now (word_tile layout.now.scheme root))) }
+    ensures next { IfOk result (λ done. AreRoots layout.now (word_level root + layout.now.subtree_levels) next.new.items) }
+    ensures faults { IfOk result (λ done. AreFaults layout.now.scheme found.new.items) }
+    ensures failed { result ≡ Err WalkStop.ReadFault → Rose (S.faults files.old) (S.faults files.new) }
+    ensures later { S.faults files.old ≤ S.faults files.new }
+    ensures same { S.told files.new ≡ S.told files.old }
+{
+    let tile = root_tile(layout, root);
+    match read_subtree(alloc, files, layout, tile)? {
+        Outcome::Bad(number) => {
+            note(found, FoundFault { root, number })?;
+            Ok(())
+        }
+        Outcome::Good(subtree) => {
+            append_roots(&subtree, region, next)?;
+            Ok(())
+        }
+    }
+}
+
+// Notes a fault.
+fn note(found: &mut Vec<FoundFault>, fault: FoundFault) -> Result<(), AllocError>
+    ensures { IfOk result (λ done. found.new.items ≡ found.old.items ++ fault ∷ []) }
+{
+    found.push(fault)?;
+    Ok(())
+}
+
+// Appends the child roots of a subtree.
+fn append_roots(subtree: &Subtree, region: &Region, next: &mut Vec<Word>) -> Result<(), AllocError>
+    ensures within_limits { IsSubtree subtree.now }
+    ensures appended { IfOk result (λ done. next.new.items ≡ next.old.items ++ child_words subtree.now region.now) }
+{
+    let _levels = subtree.levels;
+    child_roots(subtree, region, next)
+}
