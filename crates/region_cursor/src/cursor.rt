@@ -1,17 +1,16 @@
 // The state of a paused walk, and its step.
-ghost use Rattle.std.specs.Prelude.{ℕ, false, true, ◌≡◌, ◌+◌, ◌-◌, ◌<◌, ◌≤◌, ◌++◌, ◌==◌, [], nat_lt, length, take, drop, IfOk, IfErr, IfSome, IsSome, Option, option_map};
+ghost use Rattle.std.specs.Prelude.{ℕ, false, true, ◌≡◌, ◌+◌, ◌<◌, ◌≤◌, ◌==◌, [], length, drop, IfOk, IfErr, IfSome, IsSome};
 ghost use Rattle.std.specs.List.{All};
 ghost use Rattle.implicit_tiling.specs.Scene.{Scene};
 ghost use Rattle.implicit_tiling.specs.Subtree.{IsSubtree};
-ghost use Rattle.implicit_tiling.specs.Code.{IsWord};
 ghost use Rattle.implicit_tiling.specs.Answer.{most_tiles};
 ghost use Rattle.implicit_tiling.specs.Nodes.{child_words};
-ghost use Rattle.region_cursor.specs.Cursor.{local_level_of, is_last_local as is_last_local_of, key_of, next_root, Fits, FitsSubtree, IsCursor, IsRootKey, IsTileWord, IsWalkOf, IsSameWalk};
-ghost use Rattle.tile_walk.specs.Plans.{FitsLayout};
-ghost use Rattle.region_cursor.specs.Moves.{begun, over, next_level, level_after, passed, went_on, with_children, made, made_good, made_bad};
 ghost use Rattle.tile_walk.specs.Outcomes.{outcome_seen};
-ghost use Rattle.region_cursor.specs.Walked.{IsAt, IsNextKey, GivesStep};
+ghost use Rattle.tile_walk.specs.Plans.{FitsLayout};
 ghost use Rattle.tile_walk.specs.Walks.{EndsAtWord};
+ghost use Rattle.region_cursor.specs.Cursor.{local_level_of, is_last_local as is_last_local_of, key_of, next_root, Fits, FitsSubtree, IsCursor, IsRootKey, IsTileWord, IsWalkOf, IsSameWalk};
+ghost use Rattle.region_cursor.specs.Moves.{begun, over, next_level, level_after, passed, went_on, with_children, made, made_good, made_bad};
+ghost use Rattle.region_cursor.specs.Walked.{IsAt, IsNextKey, GivesStep};
 
 use availability::{Subtree, word_of};
 use region_scan::{child_roots, level_tiles};
@@ -30,14 +29,17 @@ const MOST_TILES: usize = 65536;
 /// were given. It holds no subtree (this project's own).
 #[derive(Debug, Drop)]
 pub struct CursorState {
+    // The layout's numbers: each subtree that is read agrees with them.
     scheme: Scheme,
     subtree_levels: u32,
     levels: u32,
     contents: usize,
     region: Region,
+    // The next pair: a level, and the place of its root among the roots of that level's subtrees.
     level: u32,
     position: usize,
     roots: Vec<Word>,
+    // The roots below those subtrees, found at their last level, and the tiles that were given.
     next_roots: Vec<Word>,
     count: usize,
 }
@@ -114,6 +116,7 @@ impl CursorState {
         }
     }
 
+    // The tiles go behind what `words` has until all memory is taken.
     fn step_good(&mut self, subtree: &Subtree, words: &mut Vec<Word>) -> Result<WalkEnd, AllocError>
         requires key { IsSome (key_of self.old) }
         requires fits { FitsSubtree self.old subtree.now }
@@ -143,6 +146,7 @@ impl CursorState {
         Ok(self.go_on())
     }
 
+    // Only at the root's own level a fault ends the walk; below it a faulty file has no tiles.
     fn step_bad(&mut self, number: u64) -> WalkEnd
         requires key { IsSome (key_of self.old) }
         ensures end { result ≡ (made_bad self.old number).end }
@@ -158,6 +162,7 @@ impl CursorState {
         WalkEnd::Fault { root, number }
     }
 
+    // The next key, and what every state is.
     fn key(&self) -> Option<Word>
         ensures key { result ≡ key_of self.now }
         ensures limits { IsCursor self.now }
