@@ -15,7 +15,7 @@ json_length-file json bytes h = from_le_bytes-to_le_bytes_8 (length json) h
 binary_length-file : (json bytes : List ℕ) → length bytes < 2 ^ 64 → binary_length (file_of json bytes) ≡ length bytes
 binary_length-file json bytes h = from_le_bytes-to_le_bytes_8 (length bytes) h
 
-length-file : (json bytes : List ℕ) → length (file_of json bytes) ≡ 24 + (length json + length bytes)
+pub length-file : (json bytes : List ℕ) → length (file_of json bytes) ≡ 24 + (length json + length bytes)
 length-file json bytes = omega (arith, length-append json bytes)
 
 abbrev parts_from : List ℕ → List ℕ → Parts

@@ -3,24 +3,25 @@ use Rattle.std.proofs.Common.{◌≡◌, ◌∙◌, ℕ, suc, ◌+◌, ◌-◌, 
 use Rattle.std.specs.Prelude.{Result, Ok}
 use Rattle.std.specs.List.{list_any, All}
 use Rattle.std.proofs.Math.Nat.{pow-le-pow_right}
+use Rattle.std.proofs.lemmas.Bool.{le-ltb}
 use Rattle.std.proofs.lemmas.List.{take_all}
 use Rattle.serde_json.specs.Written.{compact_text}
 use Rattle.implicit_tiling.specs.declared.Scheme.{Scheme}
 use Rattle.implicit_tiling.specs.declared.Scheme.TheVariants.{Quad, Oct}
 use Rattle.implicit_tiling.specs.Checks.{refuse, need}
-use Rattle.implicit_tiling.specs.Limits.{most_subtree_levels}
+use Rattle.implicit_tiling.specs.Limits.{most_subtree_levels, most_file_bytes}
 use Rattle.implicit_tiling.specs.Tile.{Tile}
-use Rattle.implicit_tiling.specs.Scene.{Layout}
-use Rattle.implicit_tiling.specs.Subtree.{Subtree, IsSubtree, IsOf, node_count, child_count}
+use Rattle.implicit_tiling.specs.Scene.{Layout, good, bad}
+use Rattle.implicit_tiling.specs.Subtree.{Subtree, IsSubtree, IsOf, node_count, child_count, bits_of}
 use Rattle.implicit_tileset.specs.Record.{Availability, well_formed, SubtreeRecord, record_of}
-use Rattle.implicit_tileset.specs.SubtreeFile.{Used, Held, names_no_view, is_external, is_out, is_short, is_miscounted, raw_bits, parts_of, and_then, availabilities, used_of, subtree_from, subtree_checked, subtree_held, subtree_recorded, subtree_of}
-use Rattle.subtree_write.specs.Canonical.{aligned, padded, is_mixed, streams_of, availabilities as availabilities_in, streams, binary, stream_bytes, view_values, availability_value, availability_values, json_value, json_part, canonical}
-use Rattle.subtree_write.specs.Reading.{KeepsRules, CanonicalFilesReadBack}
+use Rattle.implicit_tileset.specs.SubtreeFile.{Used, Held, names_no_view, is_external, is_out, is_short, is_miscounted, raw_bits, parts_of, and_then, availabilities, used_of, subtree_from, subtree_checked, subtree_held, subtree_recorded, subtree_of, outcome_from, outcome_in}
+use Rattle.subtree_write.specs.Canonical.{aligned, padded, is_mixed, streams_of, availabilities as availabilities_in, streams, binary, stream_bytes, view_values, availability_value, availability_values, json_value, json_part, file_of, canonical}
+use Rattle.subtree_write.specs.Reading.{KeepsRules, CanonicalFilesReadBack, CanonicalFilesAreGood}
 use Rattle.subtree_write.proofs.Added.{length-padded, length-stream}
 use Rattle.bitstream.specs.Bytes.{bytes_filled, bytes_of_bits}
 use Rattle.subtree_write.proofs.Texts.{ReadsAs, ItemsRead, json_of-text, reads_more}
 use Rattle.subtree_write.proofs.ReadValues.{AreShort, views_read, availabilities_read, availability_reads, file_reads}
-use Rattle.subtree_write.proofs.Header.{parts_of-file}
+use Rattle.subtree_write.proofs.Header.{parts_of-file, length-file}
 use Rattle.subtree_write.proofs.ReadRecord.{stated, all_stated, record_stated}
 use Rattle.subtree_write.proofs.Held.{used, Names, AllName, held_of, names_own, all_name}
 
@@ -235,3 +236,18 @@ layout_own layout s of =
 pub canonical_files_read_back : CanonicalFilesReadBack
 canonical_files_read_back layout s w of rules =
     subst (λ l. subtree_of l s.root (canonical s) ≡ Ok s) (layout_own layout s of) (own_reads_back s layout.subtree layout.contents w rules of.contents_named)
+
+good_from : (layout : Layout) (root : Tile) (file : List ℕ) (s : Subtree) → length file ≤ most_file_bytes → subtree_of layout root file ≡ Ok s → outcome_in layout root (Some file) ≡ good (bits_of s)
+good_from layout root file s short e =
+    ap (λ b. cond b (bad 2) (outcome_from (subtree_of layout root file))) (le-ltb most_file_bytes (length file) short) ∙ ap outcome_from e
+
+file_short : (json bytes : List ℕ) → length json ≤ 5007 → length bytes ≤ 2 ^ 18 * 10 → length (file_of json bytes) ≤ most_file_bytes
+file_short json bytes h k = omega (arith, length-file json bytes)
+
+text_short : (text : List ℕ) → length text ≤ 5000 → length (padded 32 text) ≤ 5007
+text_short text h = omega (arith, length-padded 32 text)
+
+pub canonical_files_are_good : CanonicalFilesAreGood
+canonical_files_are_good layout s w of rules =
+    let few : length (binary s) ≤ 2 ^ 18 * 10 = omega (arith, bytes_few (streams s) (streams_short (availabilities_in s) (all_short s w)), streams_few (availabilities_in s), ten s w) in
+    good_from layout s.root (canonical s) s (file_short (json_part s) (binary s) (text_short (compact_text (json_value s)) (value_reads s w).short) few) (canonical_files_read_back layout s w of rules)

@@ -1,8 +1,8 @@
 -- A canonical file holds its subtree (OGC 22-025r4, subtree binary format, subtree JSON format).
-use Rattle.std.specs.Prelude.{◌≡◌, false, Ok}
-use Rattle.implicit_tiling.specs.Scene.{Layout}
-use Rattle.implicit_tiling.specs.Subtree.{Subtree, IsSubtree, IsOf, has_orphan, has_content_alone}
-use Rattle.implicit_tileset.specs.SubtreeFile.{subtree_of}
+use Rattle.std.specs.Prelude.{◌≡◌, false, Some, Ok}
+use Rattle.implicit_tiling.specs.Scene.{Layout, good}
+use Rattle.implicit_tiling.specs.Subtree.{Subtree, IsSubtree, IsOf, has_orphan, has_content_alone, bits_of}
+use Rattle.implicit_tileset.specs.SubtreeFile.{subtree_of, outcome_in}
 use Rattle.subtree_write.specs.Canonical.{canonical}
 
 -- the bits break no rule between them
@@ -13,3 +13,7 @@ pub record KeepsRules (s : Subtree) : Type 0 where
 -- for a layout that the subtree is of, its canonical file has no fault, and holds the subtree with all its bits
 abbrev pub CanonicalFilesReadBack : Type 0
 CanonicalFilesReadBack = (layout : Layout) (s : Subtree) → IsSubtree s → IsOf layout s → KeepsRules s → subtree_of layout s.root (canonical s) ≡ Ok s
+
+-- it is no longer than a file may be, so it is good where it stands as the file of the subtree's root
+abbrev pub CanonicalFilesAreGood : Type 0
+CanonicalFilesAreGood = (layout : Layout) (s : Subtree) → IsSubtree s → IsOf layout s → KeepsRules s → outcome_in layout s.root (Some (canonical s)) ≡ good (bits_of s)
