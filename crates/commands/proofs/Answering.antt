@@ -24,7 +24,7 @@ use Rattle.tile_coords.specs.declared.walk_end.WalkEnd.{WalkEnd}
 use Rattle.tile_coords.specs.declared.walk_end.WalkEnd.TheVariants.{Partial, Complete, TooMany, Fault}
 use Rattle.tile_coords.specs.declared.walk_end.FoundFault.{FoundFault}
 use Rattle.tile_coords.specs.declared.walk_end.CheckEnd.{CheckEnd}
-use Rattle.request_text.specs.Found.{found_of, found_text}
+use Rattle.request_text.specs.Found.{found_of, found_text, end_of_check}
 use Rattle.tile_coords.specs.Ends.{end_seen}
 use Rattle.tileset_json.specs.Limits.{IsWithinLimits}
 use Rattle.walk_laws.proofs.Regions.{accepted_is_a_region}
@@ -36,7 +36,7 @@ use Rattle.commands.specs.Words.{Wish}
 use Rattle.commands.specs.Replies.{Reply, end_status, walk_status, found_status, plan_reply, check_reply, layout_in, reply_over, reply_wanted, Agrees, IsGiven, IsBegun, Replies}
 use Rattle.tile_walk.specs.Plans.{FitsLayout}
 use Rattle.tile_walk.specs.Walks.{IsAnswer, tile_word}
-use Rattle.commands.specs.Pending.{IsChecked}
+use Rattle.tile_walk.specs.Checks.{IsCheck}
 
 -- a fact of each list of files that a source tells
 pub of_told : (told : Option Files) (P Q : Files → Type 0) → ((all : Files) → P all → Q all) → IfSome told P → IfSome told Q
@@ -212,25 +212,27 @@ found_replies wanted before now [] h = h
 found_replies wanted before now (f ∷ faults) h = h
 
 -- the text by the words that were found is the text of the check
-check_text_is : (s : Scene) (found : List FoundFault) (end : CheckEnd) → IsChecked s found end → s.layout.levels ≤ most_levels s.layout.scheme
+check_text_is : (s : Scene) (found : List FoundFault) (end : CheckEnd) → IsCheck s found end → s.layout.levels ≤ most_levels s.layout.scheme
     → found_text s.layout.scheme found end ≡ checked_text s.layout.scheme (checked s)
 check_text_is s found end is few =
-    ap (λ fs. found_text s.layout.scheme fs end) is.found_are ∙ ap (found_text s.layout.scheme (map (found_of s.layout.scheme) (checked s).faults)) is.end_is ∙ found_make_the_text s few
+    let end_is : end ≡ end_of_check (checked s) =
+    ap (λ (n : ℕ). record { looked = n; more = end.more }) is.looked_is ∙ ap (λ (b : Bool). record { looked = length (checked s).looked; more = b }) is.more_is in
+    ap (λ fs. found_text s.layout.scheme fs end) is.faults_are ∙ ap (found_text s.layout.scheme (map (found_of s.layout.scheme) (checked s).faults)) end_is ∙ found_make_the_text s few
 
 pub told_checked : (told : Option Files) (layout : Layout) (found : List FoundFault) (end : CheckEnd) (empty : Bool) (status : Status) (before now : Option (List ℕ))
-    → IsWithinLimits layout → IfSome told (λ all. IsChecked (scene_of all layout) found end) → Appends before now (found_text layout.scheme found end)
+    → IsWithinLimits layout → IfSome told (λ all. IsCheck (scene_of all layout) found end) → Appends before now (found_text layout.scheme found end)
     → (IsTrue empty ↔ (length found ≡ 0)) → status ≡ (if empty then Done else Faulted)
     → IfSome told (λ all. Replies (Ok (check_reply (scene_of all layout))) before now status)
 told_checked told layout found end empty status before now within checks given is_empty is =
-    of_told told (λ all. IsChecked (scene_of all layout) found end) (λ all. Replies (Ok (check_reply (scene_of all layout))) before now status) (λ all h.
+    of_told told (λ all. IsCheck (scene_of all layout) found end) (λ all. Replies (Ok (check_reply (scene_of all layout))) before now status) (λ all h.
     let s : Scene = scene_of all layout in
     let whole : Appends before now (checked_text layout.scheme (checked s)) = subst (Appends before now) (check_text_is s found end h within.few_levels) given in
-    let same : status ≡ found_status (checked s).faults = status_of_found layout.scheme (checked s).faults found empty status h.found_are is_empty is in
+    let same : status ≡ found_status (checked s).faults = status_of_found layout.scheme (checked s).faults found empty status h.faults_are is_empty is in
     subst (Replies (Ok (check_reply s)) before now) (sym same) (found_replies (Ok (check_reply s)) before now (checked s).faults (refl, whole))) checks
 
 pub told_check_begun : (told : Option Files) (layout : Layout) (found : List FoundFault) (end : CheckEnd) (before now : Option (List ℕ))
-    → IsWithinLimits layout → IfSome told (λ all. IsChecked (scene_of all layout) found end) → GivesFront before now (found_text layout.scheme found end)
+    → IsWithinLimits layout → IfSome told (λ all. IsCheck (scene_of all layout) found end) → GivesFront before now (found_text layout.scheme found end)
     → IfSome told (λ all. IsBegun (Ok (check_reply (scene_of all layout))) before now)
 told_check_begun told layout found end before now within checks front =
-    of_told told (λ all. IsChecked (scene_of all layout) found end) (λ all. IsBegun (Ok (check_reply (scene_of all layout))) before now) (λ all h.
+    of_told told (λ all. IsCheck (scene_of all layout) found end) (λ all. IsBegun (Ok (check_reply (scene_of all layout))) before now) (λ all h.
     subst (GivesFront before now) (check_text_is (scene_of all layout) found end h within.few_levels) front) checks

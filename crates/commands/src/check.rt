@@ -5,12 +5,11 @@ ghost use Rattle.implicit_tileset.specs.Scene.{scene_of};
 ghost use Rattle.scene_ports.specs.Counts.{Rose};
 ghost use Rattle.commands.specs.Replies.{Replies, IsBeforeWriting, check_reply};
 
-use crate::pending::check_all;
 use crate::status::Status;
 use request_text::write_check;
 use scene_ports::{FileSource, GiveFault, Outlet};
 use std::alloc::Global;
-use tile_walk::WalkStop;
+use tile_walk::{WalkStop, check_all};
 use tileset_json::Layout;
 
 /// Gives the faults of all subtree files that are reached.
