@@ -1,14 +1,18 @@
 -- What a caller has to know of a walk and of the subtrees that it reads.
-use Rattle.std.proofs.Common.{◌≡◌, ℕ, ◌%◌, ◌<◌, ◌≤◌, false, Option, Some, length, sym, ap, subst, ◌∙◌, arith}
+use Rattle.std.proofs.Common.{◌≡◌, ℕ, ◌%◌, false, Option, Some, sym, ap, ◌∙◌, arith}
 use Rattle.std.proofs.lemmas.Option.{get_or_from_slice_get}
 use Rattle.implicit_tiling.specs.declared.Scheme.{Scheme}
 use Rattle.implicit_tiling.specs.Tile.{Tile}
 use Rattle.implicit_tiling.specs.Region.{Region}
 use Rattle.implicit_tiling.specs.Scene.{Layout}
 use Rattle.implicit_tiling.specs.Subtree.{Subtree, IsOf, has_orphan}
-use Rattle.implicit_tiling.specs.Code.{word, word_tile, word_mask}
-use Rattle.availability.proofs.Tiles.{parts_have_their_word}
-use Rattle.region_cursor.specs.Cursor.{Cursor, IsWalkOf, IsSameWalk, IsRootKey, FitsSubtree, key_of, next_root}
+use Rattle.implicit_tiling.specs.Code.{word, word_tile}
+use Rattle.availability.proofs.Tiles.{parts_have_their_word, word_tile_level, word_tile_is_tile}
+use Rattle.region_cursor.specs.Cursor.{Cursor, IsWalkOf, IsSameWalk, IsRootKey, FitsSubtree, Fits, key_of, next_root, root_level_of}
+use Rattle.tile_walk.specs.Roots.{IsRootTile}
+use Rattle.tile_walk.specs.Outcomes.{IsOutcomeAt}
+use Rattle.tile_walk.specs.declared.outcome.Outcome.{Outcome}
+use Rattle.tile_walk.specs.declared.outcome.Outcome.TheVariants.{Good, Bad}
 
 -- a walk stays one of its layout
 pub walk_stays : (layout : Layout) (region : Region) (old new : Cursor) → IsWalkOf layout region old → IsSameWalk old new → IsWalkOf layout region new
@@ -27,7 +31,7 @@ pub next_root_of_key : (c : Cursor) (key : ℕ) → key_of c ≡ Some key → ne
 next_root_of_key c key at = ap (word_tile c.scheme) (get_or_from_slice_get c.roots c.position key 0 at)
 
 -- a subtree of the layout without an orphan that begins with the next root fits the step
-pub subtree_fits : (layout : Layout) (region : Region) (c : Cursor) (key : ℕ) (st : Subtree) → IsWalkOf layout region c → key_of c ≡ Some key → IsRootKey c key
+subtree_fits : (layout : Layout) (region : Region) (c : Cursor) (key : ℕ) (st : Subtree) → IsWalkOf layout region c → key_of c ≡ Some key → IsRootKey c key
     → IsOf layout st → has_orphan st ≡ false → st.root ≡ word_tile c.scheme key → FitsSubtree c st
 subtree_fits layout region c key st is at root of no_orphan begins =
     let scheme = of.same_scheme ∙ sym is.same_scheme in
@@ -42,4 +46,22 @@ subtree_fits layout region c key st is at root of no_orphan begins =
       key = at ∙ ap {B = Option ℕ} (λ w. Some w) (sym
           (ap (λ (e : Scheme). word e st.root 0) scheme ∙ ap (λ (t : Tile). word c.scheme t 0) begins
           ∙ ap (word c.scheme (word_tile c.scheme key)) (sym root.root.no_contents) ∙ parts));
+    }
+
+-- and so does what is read of any source
+pub outcome_fits : (layout : Layout) (region : Region) (c : Cursor) (key : ℕ) (found : Outcome) → IsWalkOf layout region c → key_of c ≡ Some key → IsRootKey c key
+    → IsOutcomeAt layout (word_tile layout.scheme key) found → Fits c found
+outcome_fits layout region c key (Good st) is at root found =
+    subtree_fits layout region c key st is at root found.of_layout found.no_orphan (found.at_root ∙ ap (λ (e : Scheme). word_tile e key) (sym is.same_scheme))
+outcome_fits layout region c key (Bad n) is at root found = tt
+
+-- the tile of a next key
+pub key_is_of_a_root_tile : (layout : Layout) (region : Region) (c : Cursor) (key : ℕ) → IsWalkOf layout region c → IsRootKey c key → IsRootTile layout (word_tile layout.scheme key)
+key_is_of_a_root_tile layout region c key is root =
+    let level = word_tile_level layout.scheme key in
+    let own : (word_tile layout.scheme key).level ≡ root_level_of c = omega (arith, level, root.root.at_level) in
+    record {
+      below = omega (arith, own, root.below, is.same_levels);
+      at_start = ap (λ l. l % layout.subtree_levels) own ∙ sym (ap (λ n. root_level_of c % n) is.same_subtree_levels) ∙ root.at_start;
+      is_tile = word_tile_is_tile layout.scheme key;
     }

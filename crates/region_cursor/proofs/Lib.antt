@@ -6,3 +6,4 @@ pub mod Walked
 pub mod Results
 pub mod Rows
 pub mod Callers
+pub mod Tried

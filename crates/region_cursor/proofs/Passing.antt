@@ -1,10 +1,9 @@
 -- From one pair of a walk to the next.
-use Rattle.std.proofs.Common.{◌≡◌, ℕ, suc, ◌+◌, ◌-◌, ◌%◌, ◌<◌, ◌≤◌, Bool, true, false, List, [], ◌∷◌, ◌++◌, Option, Some, None, length, get_or, take, drop, map, refl, sym, ap, subst, ◌∙◌, arith, append-nil, length-append}
+use Rattle.std.proofs.Common.{◌≡◌, ℕ, suc, ◌+◌, ◌-◌, ◌%◌, ◌<◌, ◌≤◌, Bool, true, false, List, [], ◌∷◌, ◌++◌, Some, None, length, get_or, take, drop, map, refl, sym, ap, subst, ◌∙◌, arith, append-nil, length-append}
 use Rattle.std.specs.Prelude.{◌==◌, nat_lt, slice_get}
 use Rattle.std.specs.List.{flat_map, range_with_len}
 use Rattle.std.proofs.Math.Seq.{drop-cons}
 use Rattle.std.proofs.Math.ListN.{drop_of_length-le}
-use Rattle.std.proofs.Math.Nat.{div-add-mod}
 use Rattle.std.proofs.lemmas.Nat.{mod_below}
 use Rattle.std.proofs.lemmas.Bool.{ltb-true, ltb-false, eqb-true, eqb-false}
 use Rattle.std.proofs.lemmas.List.{take_all, length-map, nil_from_length}
@@ -12,8 +11,7 @@ use Rattle.std.proofs.lemmas.Option.{slice_get-get_or}
 use Rattle.implicit_tiling.specs.Tile.{Tile, root}
 use Rattle.implicit_tiling.specs.Region.{Region}
 use Rattle.implicit_tiling.specs.Scene.{Scene}
-use Rattle.implicit_tiling.specs.Answer.{complete}
-use Rattle.implicit_tiling.specs.Steps.{Pair, pair_of, walk_roots, pairs, partial, ended, last_or_not, steps}
+use Rattle.implicit_tiling.specs.Steps.{Pair, pair_of, walk_roots, partial, last_or_not, steps}
 use Rattle.tile_coords.specs.Ends.{end_seen}
 use Rattle.walk_laws.specs.Children.{roots_below}
 use Rattle.walk_laws.specs.Pairs.{level_pairs, pairs_above, NoPairFaults, tiles_of_pairs}
@@ -22,7 +20,7 @@ use Rattle.walk_laws.proofs.Children.{roots_go_down, next_level as next_start}
 use Rattle.walk_laws.proofs.Pairs.{pairs_go_down, pairs_above_come_first, pairs_end, roots_of_inner_levels}
 use Rattle.region_cursor.specs.Cursor.{Cursor, IsWalkOf, key_of, is_last_local}
 use Rattle.region_cursor.specs.Moves.{over, level_after, pair_after, passed, end_by_key}
-use Rattle.region_cursor.specs.Walked.{root_word, pairs_done, found_below, GoesOn, IsAtBy, IsAt}
+use Rattle.region_cursor.specs.Walked.{root_word, pairs_done, found_below, IsUnderWay, IsAtBy, IsAt}
 use Rattle.region_cursor.proofs.Places.{row, rest_here, later}
 
 -- nothing is below no roots
@@ -76,7 +74,7 @@ pub record Stands (s : Scene) (region : Region) (k : ℕ) (rest : List Pair) (c 
   pub at : IsAt s region k c
   pub end : end_seen s.layout.scheme (end_by_key (key_of c)) ≡ last_or_not rest
 
-stands_with : (s : Scene) (region : Region) (k : ℕ) (rest : List Pair) (c : Cursor) (key : ℕ) → key_of c ≡ Some key → GoesOn s region k c → partial ≡ last_or_not rest
+stands_with : (s : Scene) (region : Region) (k : ℕ) (rest : List Pair) (c : Cursor) (key : ℕ) → key_of c ≡ Some key → IsUnderWay s region k c → partial ≡ last_or_not rest
     → Stands s region k rest c
 stands_with s region k rest c key at on more = record {
   at = subst (λ o. IsAtBy o s region k c) (sym at) on;
@@ -121,7 +119,7 @@ none_follow s region level some low begins none =
 -- a state whose pair is done and counted, but which stands there still
 pub record Counted (s : Scene) (region : Region) (k : ℕ) (c : Cursor) : Type 0 where
   pub place : c.position < length (row s region c)
-  pub on : GoesOn s region k (record c { position = c.position + 1 })
+  pub on : IsUnderWay s region k (record c { position = c.position + 1 })
   pub ends : rest_here s region c ≡ [] → k ≡ length (steps s region)
 
 -- the next root of the level
@@ -170,7 +168,7 @@ abbrev at_next : Cursor → List ℕ → List ℕ → Cursor
 at_next c roots next_roots = record c { level = c.level + 1; position = 0; roots = roots; next_roots = next_roots }
 
 next_goes_on : (s : Scene) (region : Region) (k : ℕ) (c : Cursor) (roots next_roots : List ℕ) → Counted s region k c → LevelDone s region k c → c.level < region.level
-    → roots ≡ map (root_word s) (walk_roots s region (c.level + 1)) → next_roots ≡ [] → GoesOn s region k (at_next c roots next_roots)
+    → roots ≡ map (root_word s) (walk_roots s region (c.level + 1)) → next_roots ≡ [] → IsUnderWay s region k (at_next c roots next_roots)
 next_goes_on s region k c roots next_roots is d low are none =
     let same : pairs_done s region c.level (c.position + 1) ≡ pairs_done s region (c.level + 1) 0 = d.done ∙ sym (none_done s region (c.level + 1)) in
     record {

@@ -1,26 +1,21 @@
 -- The pair that a walk stands at, and its step.
-use Rattle.std.proofs.Common.{◌≡◌, ℕ, suc, ◌+◌, ◌-◌, ◌%◌, ◌<◌, ◌≤◌, Bool, true, false, List, [], ◌∷◌, ◌++◌, Option, Some, None, length, get_or, take, drop, map, refl, sym, ap, subst, ◌∙◌, arith, append_assoc}
+use Rattle.std.proofs.Common.{◌≡◌, ℕ, suc, ◌+◌, ◌-◌, ◌<◌, ◌≤◌, Bool, true, false, List, [], ◌∷◌, ◌++◌, Option, Some, None, length, get_or, take, drop, map, refl, sym, ap, subst, ◌∙◌, arith, append_assoc}
 use Rattle.std.specs.Prelude.{nat_lt, slice_get, IsSomeAnd}
-use Rattle.std.specs.List.{flat_map, range_with_len, All}
+use Rattle.std.specs.List.{flat_map, range_with_len}
 use Rattle.std.proofs.lemmas.List.{take_more, map-append, length-map, get_or-map}
 use Rattle.std.proofs.lemmas.Option.{slice_get_within, slice_get-get_or}
-use Rattle.std.proofs.lemmas.Bool.{and_parts, ltb-true}
-use Rattle.implicit_tiling.specs.Limits.{most_levels}
 use Rattle.implicit_tiling.specs.Tile.{Tile, root}
 use Rattle.implicit_tiling.specs.Region.{Region}
 use Rattle.implicit_tiling.specs.Scene.{Scene}
 use Rattle.implicit_tiling.specs.Answer.{most_tiles}
-use Rattle.implicit_tiling.specs.Availability.{is_subtree_root, is_available, child_bit}
-use Rattle.implicit_tiling.specs.Code.{word, word_tile}
 use Rattle.implicit_tiling.specs.Steps.{Pair, pair_of, walk_roots, pairs, segment, pair_fault, last_or_not, StepEnd, Step, step_then, steps, steps_from}
 use Rattle.walk_laws.specs.Children.{IsWalkRoot}
-use Rattle.walk_laws.specs.Pairs.{level_pairs, pairs_above, NoPairFaults, tiles_of_pairs, step_on}
+use Rattle.walk_laws.specs.Pairs.{level_pairs, pairs_above, tiles_of_pairs, step_on}
 use Rattle.walk_laws.proofs.PairLevels.{pairs_at_a_root}
 use Rattle.walk_laws.proofs.PairAnswers.{steps_follow_the_pairs}
 use Rattle.walk_laws.proofs.WalkRoots.{roots_are_on_the_walk}
-use Rattle.availability.proofs.Tiles.{tile_of_word}
-use Rattle.region_cursor.specs.Cursor.{Cursor, key_of, next_root}
-use Rattle.region_cursor.specs.Walked.{root_word, pairs_done, GoesOn, IsAtBy, IsAt, IsNextKey}
+use Rattle.region_cursor.specs.Cursor.{Cursor, key_of}
+use Rattle.region_cursor.specs.Walked.{root_word, pairs_done, IsUnderWay, IsAtBy, IsAt, IsNextKey}
 use Rattle.region_cursor.proofs.Lists.{split_at, get_at, length_at}
 
 -- the root of the next step, its pair, and the pairs after it
@@ -59,11 +54,11 @@ done_more s region c h =
     ∙ sym (append_assoc above (map (pair_of c.level) first) (pair_here s region c ∷ []))
 
 -- where there is a key, the place is among the roots
-pub place_of_key : (s : Scene) (region : Region) (k : ℕ) (c : Cursor) (key : ℕ) → GoesOn s region k c → key_of c ≡ Some key → c.position < length (row s region c)
+pub place_of_key : (s : Scene) (region : Region) (k : ℕ) (c : Cursor) (key : ℕ) → IsUnderWay s region k c → key_of c ≡ Some key → c.position < length (row s region c)
 place_of_key s region k c key on at =
     omega (arith, slice_get_within c.roots c.position key at, ap length on.roots, length-map (row s region c) (root_word s))
 
-pub key_here : (s : Scene) (region : Region) (k : ℕ) (c : Cursor) → GoesOn s region k c → c.position < length (row s region c)
+pub key_here : (s : Scene) (region : Region) (k : ℕ) (c : Cursor) → IsUnderWay s region k c → c.position < length (row s region c)
     → key_of c ≡ Some (root_word s (root_here s region c))
 key_here s region k c on h =
     let there : c.position < length (map (root_word s) (row s region c)) = omega (arith, h, length-map (row s region c) (root_word s)) in
@@ -71,11 +66,11 @@ key_here s region k c on h =
     ∙ slice_get-get_or (map (root_word s) (row s region c)) c.position 0 there
     ∙ ap {B = Option ℕ} (λ w. Some w) (get_or-map (root_word s) (row s region c) c.position root 0 h)
 
-pub goes_on : (s : Scene) (region : Region) (k : ℕ) (c : Cursor) (key : ℕ) → IsAt s region k c → key_of c ≡ Some key → GoesOn s region k c
-goes_on s region k c key is at = subst (λ o. IsAtBy o s region k c) at is
+pub is_under_way : (s : Scene) (region : Region) (k : ℕ) (c : Cursor) (key : ℕ) → IsAt s region k c → key_of c ≡ Some key → IsUnderWay s region k c
+is_under_way s region k c key is at = subst (λ o. IsAtBy o s region k c) at is
 
 -- the steps from here on
-pub steps_here : (s : Scene) (region : Region) (k : ℕ) (c : Cursor) → GoesOn s region k c → c.position < length (row s region c)
+pub steps_here : (s : Scene) (region : Region) (k : ℕ) (c : Cursor) → IsUnderWay s region k c → c.position < length (row s region c)
     → steps s region ≡ map (step_on s region) (done_here s region c) ++ steps_from s region c.count (pair_here s region c ∷ rest_here s region c)
 steps_here s region k c on h =
     let done = done_here s region c in
@@ -88,7 +83,7 @@ pub record IsStep (s : Scene) (region : Region) (k : ℕ) (x : Step) (xs : List 
   pub step : slice_get (steps s region) k ≡ Some x
   pub count : length (steps s region) ≡ k + suc (length xs)
 
-pub step_here : (s : Scene) (region : Region) (k : ℕ) (c : Cursor) (x : Step) (xs : List Step) → GoesOn s region k c → c.position < length (row s region c)
+pub step_here : (s : Scene) (region : Region) (k : ℕ) (c : Cursor) (x : Step) (xs : List Step) → IsUnderWay s region k c → c.position < length (row s region c)
     → steps_from s region c.count (pair_here s region c ∷ rest_here s region c) ≡ x ∷ xs → IsStep s region k x xs
 step_here s region k c x xs on h first =
     let done = map (step_on s region) (done_here s region c) in
@@ -103,7 +98,7 @@ some_step r (Some n') cut n tiles end rest = (_, ([], refl))
 some_step r None true n tiles end rest = (_, ([], refl))
 some_step r None false n tiles end rest = (_, (rest, refl))
 
-key_is_next : (s : Scene) (region : Region) (k : ℕ) (c : Cursor) (key : ℕ) → key_of c ≡ Some key → GoesOn s region k c → IsNextKey s region k (Some key)
+key_is_next : (s : Scene) (region : Region) (k : ℕ) (c : Cursor) (key : ℕ) → key_of c ≡ Some key → IsUnderWay s region k c → IsNextKey s region k (Some key)
 key_is_next s region k c key at on =
     let h = place_of_key s region k c key on at in
     let p = pair_here s region c in

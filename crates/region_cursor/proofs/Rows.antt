@@ -1,6 +1,6 @@
 -- The roots of a state from level to level.
-use Rattle.std.proofs.Common.{◌≡◌, ℕ, ◌+◌, ◌-◌, ◌%◌, ◌^◌, ◌<◌, ◌≤◌, Bool, true, false, List, [], ◌++◌, Option, Some, None, get_or, sym, ap, subst, ◌∙◌, arith}
-use Rattle.std.specs.Prelude.{◌==◌, slice_get, IfSome}
+use Rattle.std.proofs.Common.{◌≡◌, ℕ, ◌+◌, ◌-◌, ◌%◌, ◌^◌, ◌<◌, ◌≤◌, Bool, true, false, List, [], ◌++◌, Option, Some, None, sym, ap, subst, ◌∙◌, arith}
+use Rattle.std.specs.Prelude.{◌==◌, IfSome}
 use Rattle.std.specs.List.{All}
 use Rattle.std.proofs.lemmas.Nat.{mod_below}
 use Rattle.std.proofs.lemmas.Bool.{eqb-true, eqb-false}
@@ -9,11 +9,11 @@ use Rattle.std.proofs.lemmas.Option.{slice_get_within, get_or_from_slice_get}
 use Rattle.implicit_tiling.specs.declared.Scheme.{Scheme}
 use Rattle.implicit_tiling.specs.Region.{Region}
 use Rattle.implicit_tiling.specs.Subtree.{Subtree, IsSubtree}
-use Rattle.implicit_tiling.specs.Code.{word, word_level}
+use Rattle.implicit_tiling.specs.Code.{word}
 use Rattle.implicit_tiling.specs.Nodes.{child_words}
 use Rattle.walk_laws.proofs.Segments.{at_start, local_low, local_of}
 use Rattle.availability.proofs.Tiles.{level_of_word}
-use Rattle.region_cursor.specs.Cursor.{Cursor, IsCursor, IsRootAt, IsRootKey, FitsSubtree, local_level_of, is_last_local, root_level_of, key_of}
+use Rattle.region_cursor.specs.Cursor.{Cursor, IsCursor, IsRootAt, IsRootKey, FitsSubtree, is_last_local, root_level_of, key_of}
 use Rattle.region_cursor.proofs.Words.{child_words_are_words}
 use Rattle.region_cursor.proofs.Passing.{begins_below}
 

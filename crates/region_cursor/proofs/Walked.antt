@@ -1,7 +1,7 @@
 -- A step from an outcome of a scene is the step of the walk over the scene.
-use Rattle.std.proofs.Common.{◌≡◌, ℕ, ◌+◌, ◌-◌, ◌%◌, ◌^◌, ◌<◌, ◌≤◌, Bool, true, false, List, [], ◌∷◌, ◌++◌, Option, Some, None, length, get_or, take, map, refl, sym, ap, subst, ◌∙◌, arith, append-nil, add-zero, length-append}
-use Rattle.std.specs.Prelude.{◌&&◌, ◌==◌, nat_lt, slice_get, slice_index, IsSome, IsSomeAnd, filter}
-use Rattle.std.specs.List.{flat_map, All}
+use Rattle.std.proofs.Common.{◌≡◌, ℕ, ◌+◌, ◌-◌, ◌%◌, ◌^◌, ◌<◌, ◌≤◌, Bool, true, false, List, [], ◌∷◌, ◌++◌, Option, Some, None, length, take, map, refl, sym, ap, subst, ◌∙◌, arith, append-nil, length-append}
+use Rattle.std.specs.Prelude.{◌&&◌, ◌==◌, nat_lt, slice_index, IsSome, IsSomeAnd, filter}
+use Rattle.std.specs.List.{flat_map}
 use Rattle.std.proofs.lemmas.Nat.{mod_below}
 use Rattle.std.proofs.lemmas.Bool.{and_parts, ltb-true, ltb-false, lt-ltb, le-ltb, eqb-true, eqb-false, false_from_ne_true}
 use Rattle.std.proofs.lemmas.List.{take_more, take_all, take-map, map-append, length-map}
@@ -12,13 +12,13 @@ use Rattle.implicit_tiling.specs.declared.Scheme.{Scheme}
 use Rattle.implicit_tiling.specs.Limits.{most_levels}
 use Rattle.implicit_tiling.specs.Tile.{Tile, IsTile, root}
 use Rattle.implicit_tiling.specs.Region.{Region, Plan, is_in}
-use Rattle.implicit_tiling.specs.Scene.{Layout, Outcome as outcome, Scene, good, bad, fault_of}
-use Rattle.implicit_tiling.specs.Availability.{local_level, subtree_root, is_subtree_root, is_available, is_reached, child_bit, mask}
+use Rattle.implicit_tiling.specs.Scene.{Layout, Scene, good, bad, fault_of}
+use Rattle.implicit_tiling.specs.Availability.{local_level, subtree_root, is_subtree_root, is_available, is_reached}
 use Rattle.implicit_tiling.specs.Answer.{most_tiles, too_many, fault}
 use Rattle.implicit_tiling.specs.Subtree.{Subtree, IsSubtree, bits_of}
 use Rattle.implicit_tiling.specs.Code.{word, word_tile}
 use Rattle.implicit_tiling.specs.Nodes.{level_words, child_words}
-use Rattle.implicit_tiling.specs.Steps.{Pair, pair_of, descendants, root_level, walk_roots, segment, pair_fault, last_or_not, ended, Step, step_then, steps, steps_from}
+use Rattle.implicit_tiling.specs.Steps.{pair_of, descendants, segment, pair_fault, last_or_not, ended, Step, step_then, steps, steps_from}
 use Rattle.tiling_laws.proofs.Available.{available_as_written}
 use Rattle.tile_coords.specs.Ends.{end_seen}
 use Rattle.tile_coords.specs.declared.walk_end.WalkEnd.{WalkEnd}
@@ -26,9 +26,9 @@ use Rattle.tile_coords.specs.declared.walk_end.WalkEnd.TheVariants.{TooMany, Fau
 use Rattle.availability.specs.Words.{HasWord}
 use Rattle.availability.proofs.Tiles.{tile_of_word}
 use Rattle.walk_laws.specs.Regions.{IsRegion}
-use Rattle.walk_laws.specs.Children.{roots_below, IsWalkRoot}
+use Rattle.walk_laws.specs.Children.{roots_below}
 use Rattle.walk_laws.specs.Decoded.{IsDecoded}
-use Rattle.walk_laws.specs.Pairs.{NoPairFaults, tiles_of_pairs}
+use Rattle.walk_laws.specs.Pairs.{tiles_of_pairs}
 use Rattle.walk_laws.proofs.Lists.{filter_none}
 use Rattle.walk_laws.proofs.Runs.{below, of_descendants}
 use Rattle.walk_laws.proofs.Segments.{local_low, below_root}
@@ -37,13 +37,15 @@ use Rattle.walk_laws.proofs.Children.{no_root_below_a_fault}
 use Rattle.walk_laws.proofs.Regions.{roots_begin_at_the_root, accepted_is_a_region}
 use Rattle.walk_laws.proofs.WalkRoots.{child_words_are_root_words}
 use Rattle.walk_laws.proofs.Pairs.{fault_at_own_level, no_fault_below, no_fault_of_good}
-use Rattle.region_cursor.specs.declared.outcome.Outcome.{Outcome}
-use Rattle.region_cursor.specs.declared.outcome.Outcome.TheVariants.{Good, Bad}
-use Rattle.region_cursor.specs.Cursor.{Cursor, IsWalkOf, local_level_of, is_last_local, key_of, next_root, FitsSubtree, Fits, FitsLayout}
-use Rattle.region_cursor.specs.Moves.{begun, over, passed, end_by_key, Made, went_on, children_if, with_children, counted, room, made_by, made_of, made_good, made_at, made_bad, made}
-use Rattle.region_cursor.specs.Outcomes.{outcome_seen}
-use Rattle.region_cursor.specs.Walked.{root_word, tile_word, pairs_done, found_below, GoesOn, IsAtBy, IsAt, GivesStep}
-use Rattle.region_cursor.proofs.Places.{row, root_here, pair_here, rest_here, done_here, done_more, place_of_key, key_here, goes_on, IsStep, step_here, root_is_on_walk}
+use Rattle.tile_walk.specs.declared.outcome.Outcome.{Outcome}
+use Rattle.tile_walk.specs.declared.outcome.Outcome.TheVariants.{Good, Bad}
+use Rattle.region_cursor.specs.Cursor.{Cursor, local_level_of, is_last_local, key_of, next_root, FitsSubtree, Fits}
+use Rattle.tile_walk.specs.Plans.{FitsLayout}
+use Rattle.region_cursor.specs.Moves.{begun, over, passed, end_by_key, Made, went_on, children_if, with_children, counted, room, made_by, made_good, made_at, made}
+use Rattle.tile_walk.specs.Outcomes.{outcome_seen}
+use Rattle.region_cursor.specs.Walked.{root_word, pairs_done, found_below, IsUnderWay, IsAt, GivesStep}
+use Rattle.tile_walk.specs.Walks.{tile_word}
+use Rattle.region_cursor.proofs.Places.{row, root_here, pair_here, rest_here, done_here, done_more, place_of_key, key_here, is_under_way, IsStep, step_here, root_is_on_walk}
 use Rattle.region_cursor.proofs.Passing.{nothing_below, Counted, to_next}
 
 -- what is to be shown of a step
@@ -66,7 +68,7 @@ first_step s region c found cut =
     let seg = tiles_here s region c in
     step_then (root_here s region c) found cut c.count seg (last_or_not (rest_here s region c)) (steps_from s region (c.count + length seg) (rest_here s region c))
 
-step_by : (s : Scene) (region : Region) (k : ℕ) (c : Cursor) (found : Option ℕ) (cut : Bool) (x : Step) (xs : List Step) → GoesOn s region k c → c.position < length (row s region c)
+step_by : (s : Scene) (region : Region) (k : ℕ) (c : Cursor) (found : Option ℕ) (cut : Bool) (x : Step) (xs : List Step) → IsUnderWay s region k c → c.position < length (row s region c)
     → pair_fault s (pair_here s region c) ≡ found → nat_lt most_tiles (c.count + length (tiles_here s region c)) ≡ cut → first_step s region c found cut ≡ x ∷ xs
     → IsStep s region k x xs
 step_by s region k c found cut x xs on h tells many is =
@@ -74,7 +76,7 @@ step_by s region k c found cut x xs on h tells many is =
     (ap (λ o. first_step s region c o (nat_lt most_tiles (c.count + length (tiles_here s region c)))) tells ∙ ap (first_step s region c found) many ∙ is)
 
 -- a faulty root
-makes_fault : (s : Scene) (region : Region) (k : ℕ) (c : Cursor) (n : ℕ) → GoesOn s region k c → c.position < length (row s region c)
+makes_fault : (s : Scene) (region : Region) (k : ℕ) (c : Cursor) (n : ℕ) → IsUnderWay s region k c → c.position < length (row s region c)
     → pair_fault s (pair_here s region c) ≡ Some n → word_tile s.layout.scheme (slice_index c.roots c.position) ≡ root_here s region c
     → MakesStep s region k (made_at true c n)
 makes_fault s region k c n on h found same =
@@ -86,7 +88,7 @@ makes_fault s region k c n on h found same =
     }
 
 -- too many tiles
-makes_cut : (s : Scene) (region : Region) (k : ℕ) (c c2 : Cursor) (words : List ℕ) → GoesOn s region k c → c.position < length (row s region c)
+makes_cut : (s : Scene) (region : Region) (k : ℕ) (c c2 : Cursor) (words : List ℕ) → IsUnderWay s region k c → c.position < length (row s region c)
     → pair_fault s (pair_here s region c) ≡ None → most_tiles < c.count + length (tiles_here s region c)
     → words ≡ map (tile_word s) (take (most_tiles - c.count) (tiles_here s region c)) → MakesStep s region k (made_by true words c2)
 makes_cut s region k c c2 words on h none many are =
@@ -95,7 +97,7 @@ makes_cut s region k c c2 words on h none many are =
     record { given = gives s region k words TooMany x [] is are refl; after = sym is.count }
 
 -- a step that goes on: its pair is done and counted
-counted_here : (s : Scene) (region : Region) (k : ℕ) (c : Cursor) (count : ℕ) (next_roots : List ℕ) → GoesOn s region k c → c.position < length (row s region c)
+counted_here : (s : Scene) (region : Region) (k : ℕ) (c : Cursor) (count : ℕ) (next_roots : List ℕ) → IsUnderWay s region k c → c.position < length (row s region c)
     → pair_fault s (pair_here s region c) ≡ None → count ≡ c.count + length (tiles_here s region c) → count ≤ most_tiles
     → next_roots ≡ map (root_word s) (found_below (is_last_local c) s region (take (c.position + 1) (row s region c)))
     → (rest_here s region c ≡ [] → k + 1 ≡ length (steps s region))
@@ -133,7 +135,7 @@ counted_here s region k c count next_roots on h none tiles few found ends =
       ends = ends;
     }
 
-makes_on : (s : Scene) (region : Region) (k : ℕ) (c : Cursor) (words : List ℕ) (count : ℕ) (next_roots : List ℕ) → GoesOn s region k c → c.position < length (row s region c)
+makes_on : (s : Scene) (region : Region) (k : ℕ) (c : Cursor) (words : List ℕ) (count : ℕ) (next_roots : List ℕ) → IsUnderWay s region k c → c.position < length (row s region c)
     → pair_fault s (pair_here s region c) ≡ None → count ≡ c.count + length (tiles_here s region c) → count ≤ most_tiles
     → next_roots ≡ map (root_word s) (found_below (is_last_local c) s region (take (c.position + 1) (row s region c)))
     → words ≡ map (tile_word s) (tiles_here s region c)
@@ -150,7 +152,7 @@ makes_on s region k c words count next_roots on h none tiles few found are =
     record { given = gives s region k words (end_by_key (key_of (passed c2))) x xs is are stands.end; after = stands.at }
 
 -- the root of the next step is that of its key's word
-root_has_word : (s : Scene) (region : Region) (k : ℕ) (c : Cursor) → GoesOn s region k c → c.position < length (row s region c) → HasWord s.layout.scheme (root_here s region c)
+root_has_word : (s : Scene) (region : Region) (k : ℕ) (c : Cursor) → IsUnderWay s region k c → c.position < length (row s region c) → HasWord s.layout.scheme (root_here s region c)
 root_has_word s region k c on h =
     let r = root_here s region c in
     let is = root_is_on_walk s region c h in
@@ -161,13 +163,13 @@ root_has_word s region k c on h =
 short : 0 < 2 ^ 8
 short = omega arith
 
-root_of_key : (s : Scene) (region : Region) (k : ℕ) (c : Cursor) → GoesOn s region k c → c.position < length (row s region c)
+root_of_key : (s : Scene) (region : Region) (k : ℕ) (c : Cursor) → IsUnderWay s region k c → c.position < length (row s region c)
     → word_tile s.layout.scheme (slice_index c.roots c.position) ≡ root_here s region c
 root_of_key s region k c on h =
     ap (word_tile s.layout.scheme) (get_or_from_slice_get c.roots c.position (root_word s (root_here s region c)) 0 (key_here s region k c on h))
     ∙ tile_of_word s.layout.scheme (root_here s region c) 0 (root_has_word s region k c on h) short
 
-next_root_is : (s : Scene) (region : Region) (k : ℕ) (c : Cursor) → GoesOn s region k c → c.position < length (row s region c) → next_root c ≡ root_here s region c
+next_root_is : (s : Scene) (region : Region) (k : ℕ) (c : Cursor) → IsUnderWay s region k c → c.position < length (row s region c) → next_root c ≡ root_here s region c
 next_root_is s region k c on h =
     ap (λ (e : Scheme). word_tile e (slice_index c.roots c.position)) on.of_scene.same_scheme ∙ root_of_key s region k c on h
 
@@ -182,7 +184,7 @@ one_more_found true s region first r next_roots children found own =
     ∙ sym (ap (map (root_word s)) (flat_map-append f first (r ∷ [])) ∙ map-append (root_word s) (flat_map f first) (f r ++ []))
 one_more_found false s region first r next_roots children found own = found
 
-found_here : (s : Scene) (region : Region) (k : ℕ) (c : Cursor) (children : List ℕ) → GoesOn s region k c → c.position < length (row s region c)
+found_here : (s : Scene) (region : Region) (k : ℕ) (c : Cursor) (children : List ℕ) → IsUnderWay s region k c → c.position < length (row s region c)
     → children ≡ map (root_word s) (roots_below s region (root_here s region c))
     → children_if (is_last_local c) c.next_roots children ≡ map (root_word s) (found_below (is_last_local c) s region (take (c.position + 1) (row s region c)))
 found_here s region k c children on h own =
@@ -190,18 +192,18 @@ found_here s region k c children on h own =
     ∙ ap (λ w. map (root_word s) (found_below (is_last_local c) s region w)) (sym (take_more (row s region c) c.position root h))
 
 -- the levels of the step
-level_here : (s : Scene) (region : Region) (k : ℕ) (c : Cursor) → GoesOn s region k c → c.position < length (row s region c)
+level_here : (s : Scene) (region : Region) (k : ℕ) (c : Cursor) → IsUnderWay s region k c → c.position < length (row s region c)
     → c.level ≡ (root_here s region c).level + local_level_of c
 level_here s region k c on h =
     let is = root_is_on_walk s region c h in
     omega (arith, is.level, local_low c.level s.layout.subtree_levels, ap (λ n. c.level % n) on.of_scene.same_subtree_levels)
 
-local_is_low : (s : Scene) (region : Region) (k : ℕ) (c : Cursor) → GoesOn s region k c → local_level_of c < s.layout.subtree_levels
+local_is_low : (s : Scene) (region : Region) (k : ℕ) (c : Cursor) → IsUnderWay s region k c → local_level_of c < s.layout.subtree_levels
 local_is_low s region k c on =
     omega (arith, mod_below c.level s.layout.subtree_levels on.of_scene.some_levels, ap (λ n. c.level % n) on.of_scene.same_subtree_levels)
 
 -- a subtree
-subtree_root_is : (s : Scene) (region : Region) (k : ℕ) (c : Cursor) (st : Subtree) → GoesOn s region k c → c.position < length (row s region c)
+subtree_root_is : (s : Scene) (region : Region) (k : ℕ) (c : Cursor) (st : Subtree) → IsUnderWay s region k c → c.position < length (row s region c)
     → FitsSubtree c st → IsSubtree st → st.root ≡ root_here s region c
 subtree_root_is s region k c st on h fits is =
     let r = root_here s region c in
@@ -212,7 +214,7 @@ subtree_root_is s region k c st on h fits is =
     ∙ ap (λ (e : Scheme). word_tile e (root_word s r)) (fits.same_scheme ∙ on.of_scene.same_scheme)
     ∙ tile_of_word s.layout.scheme r 0 (root_has_word s region k c on h) short
 
-is_decoded : (s : Scene) (region : Region) (k : ℕ) (c : Cursor) (st : Subtree) → GoesOn s region k c → c.position < length (row s region c)
+is_decoded : (s : Scene) (region : Region) (k : ℕ) (c : Cursor) (st : Subtree) → IsUnderWay s region k c → c.position < length (row s region c)
     → FitsSubtree c st → IsSubtree st → good (bits_of st) ≡ s.outcome (next_root c) → IsDecoded s st
 is_decoded s region k c st on h fits is same =
     let here = subtree_root_is s region k c st on h fits is in
@@ -235,7 +237,7 @@ record SubtreeHere (s : Scene) (region : Region) (c : Cursor) (st : Subtree) : T
   words : level_words st c.region (local_level_of c) ≡ map (tile_word s) (tiles_here s region c)
   children : child_words st c.region ≡ map (root_word s) (roots_below s region (root_here s region c))
 
-subtree_here : (s : Scene) (region : Region) (k : ℕ) (c : Cursor) (st : Subtree) → GoesOn s region k c → c.position < length (row s region c)
+subtree_here : (s : Scene) (region : Region) (k : ℕ) (c : Cursor) (st : Subtree) → IsUnderWay s region k c → c.position < length (row s region c)
     → FitsSubtree c st → IsSubtree st → good (bits_of st) ≡ s.outcome (next_root c) → SubtreeHere s region c st
 subtree_here s region k c st on h fits is same =
     let here = subtree_root_is s region k c st on h fits is in
@@ -256,7 +258,7 @@ subtree_here s region k c st on h fits is same =
           ∙ ap (λ (r : Tile). map (root_word s) (roots_below s region r)) here;
     }
 
-makes_of : (s : Scene) (region : Region) (k : ℕ) (c : Cursor) (st : Subtree) (more : Bool) → GoesOn s region k c → c.position < length (row s region c) → SubtreeHere s region c st
+makes_of : (s : Scene) (region : Region) (k : ℕ) (c : Cursor) (st : Subtree) (more : Bool) → IsUnderWay s region k c → c.position < length (row s region c) → SubtreeHere s region c st
     → nat_lt (room c) (length (level_words st c.region (local_level_of c))) ≡ more
     → MakesStep s region k (made_by more (take (room c) (level_words st c.region (local_level_of c)))
     (counted (take (room c) (level_words st c.region (local_level_of c))) (with_children more c (child_words st c.region))))
@@ -279,7 +281,7 @@ makes_of s region k c st false on h is over =
     (found_here s region k c children on h is.children)
     (all ∙ is.words)
 
-makes_good : (s : Scene) (region : Region) (k : ℕ) (c : Cursor) (st : Subtree) → GoesOn s region k c → c.position < length (row s region c)
+makes_good : (s : Scene) (region : Region) (k : ℕ) (c : Cursor) (st : Subtree) → IsUnderWay s region k c → c.position < length (row s region c)
     → FitsSubtree c st → IsSubtree st → good (bits_of st) ≡ s.outcome (next_root c) → MakesStep s region k (made_good c st)
 makes_good s region k c st on h fits is same =
     makes_of s region k c st (nat_lt (room c) (length (level_words st c.region (local_level_of c)))) on h (subtree_here s region k c st on h fits is same) refl
@@ -300,7 +302,7 @@ no_children : (last : Bool) (roots : List ℕ) → roots ≡ children_if last ro
 no_children true roots = sym (append-nil roots)
 no_children false roots = refl
 
-makes_bad_at : (s : Scene) (region : Region) (k : ℕ) (c : Cursor) (n : ℕ) (first : Bool) → GoesOn s region k c → c.position < length (row s region c)
+makes_bad_at : (s : Scene) (region : Region) (k : ℕ) (c : Cursor) (n : ℕ) (first : Bool) → IsUnderWay s region k c → c.position < length (row s region c)
     → s.outcome (root_here s region c) ≡ bad n → (local_level_of c == 0) ≡ first → MakesStep s region k (made_at first c n)
 makes_bad_at s region k c n true on h faulty at =
     let own : c.level ≡ (root_here s region c).level = omega (arith, level_here s region k c on h, eqb-true (local_level_of c) 0 at) in
@@ -327,10 +329,10 @@ HasLimits (Bad n) = Unit {0}
 makes_by : (s : Scene) (region : Region) (k : ℕ) (c : Cursor) (key : ℕ) (o : Outcome) → IsAt s region k c → key_of c ≡ Some key
     → Fits c o → HasLimits o → outcome_seen o ≡ s.outcome (next_root c) → MakesStep s region k (made c o)
 makes_by s region k c key (Good st) is at fits limits same =
-    let on = goes_on s region k c key is at in
+    let on = is_under_way s region k c key is at in
     makes_good s region k c st on (place_of_key s region k c key on at) fits limits same
 makes_by s region k c key (Bad n) is at fits limits same =
-    let on = goes_on s region k c key is at in
+    let on = is_under_way s region k c key is at in
     let h = place_of_key s region k c key on at in
     let faulty = ap s.outcome (sym (next_root_is s region k c on h)) ∙ sym same in
     makes_bad_at s region k c n (local_level_of c == 0) on h faulty refl
@@ -366,9 +368,10 @@ pub makes_as_given : (s : Scene) (region : Region) (k : ℕ) (c : Cursor) (o : O
     → IsAt s region k c → IsSome (key_of c) → Fits c o → HasLimits o → outcome_seen o ≡ s.outcome (next_root c)
     → GivesStep s region k words end × IsAt s region (k + 1) after
 makes_as_given s region k c o words end after words_are end_is after_is is some fits limits same =
-    let m = makes_step s region k c o is some fits limits same in
-    (subst (λ w. GivesStep s region k w end) (sym words_are) (subst (λ e. GivesStep s region k (made c o).words e) (sym end_is) m.given),
-    subst (λ a. IsAt s region (k + 1) a) (sym after_is) m.after)
+    let m = makes_step s region k c o is some fits limits same in (
+      subst (λ w. GivesStep s region k w end) (sym words_are) (subst (λ e. GivesStep s region k (made c o).words e) (sym end_is) m.given),
+      subst (λ a. IsAt s region (k + 1) a) (sym after_is) m.after,
+    )
 
 pub begins_as_given : (s : Scene) (layout : Layout) (plan : Plan) (c : Cursor) → c ≡ begun layout plan.region → s.layout ≡ layout
     → 1 ≤ layout.subtree_levels → 1 ≤ layout.levels → layout.levels ≤ most_levels layout.scheme → FitsLayout layout plan → IsAt s plan.region 0 c

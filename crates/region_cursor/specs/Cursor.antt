@@ -1,16 +1,16 @@
 -- The state of a paused walk (this project's own).
-use Rattle.std.specs.Prelude.{ℕ, ◌≡◌, ◌+◌, ◌-◌, ◌%◌, ◌^◌, ◌<◌, ◌≤◌, ◌==◌, Bool, false, List, length, Option, Some, Ok, slice_get, slice_index}
+use Rattle.std.specs.Prelude.{ℕ, ◌≡◌, ◌+◌, ◌-◌, ◌%◌, ◌^◌, ◌<◌, ◌≤◌, ◌==◌, Bool, false, List, length, Option, Some, slice_get, slice_index}
 use Rattle.std.specs.List.{All}
 use Rattle.implicit_tiling.specs.declared.Scheme.{Scheme}
 use Rattle.implicit_tiling.specs.Limits.{most_levels, most_contents}
-use Rattle.implicit_tiling.specs.Tile.{Tile, depth_of}
-use Rattle.implicit_tiling.specs.Region.{Region, Plan, region_of}
+use Rattle.implicit_tiling.specs.Tile.{Tile}
+use Rattle.implicit_tiling.specs.Region.{Region}
 use Rattle.implicit_tiling.specs.Scene.{Layout}
 use Rattle.implicit_tiling.specs.Subtree.{Subtree, has_orphan}
 use Rattle.implicit_tiling.specs.Answer.{most_tiles}
 use Rattle.implicit_tiling.specs.Code.{word, word_tile, word_level, word_mask, IsWord}
-use Rattle.region_cursor.specs.declared.outcome.Outcome.{Outcome}
-use Rattle.region_cursor.specs.declared.outcome.Outcome.TheVariants.{Good, Bad}
+use Rattle.tile_walk.specs.declared.outcome.Outcome.{Outcome}
+use Rattle.tile_walk.specs.declared.outcome.Outcome.TheVariants.{Good, Bad}
 
 -- Of the layout the scheme, the levels of a subtree and in all, and the number of contents; the region; the level of the
 -- next step and the place of its root among the roots of that level's subtrees; the words of these roots and of the roots
@@ -89,13 +89,6 @@ pub record IsSameWalk (old new : Cursor) : Type 0 where
   pub same_levels : new.levels ≡ old.levels
   pub same_contents : new.contents ≡ old.contents
   pub same_region : new.region ≡ old.region
-
--- the plan is one of the layout's: the scheme is the layout's, in a quadtree the third places are 0, and the region is accepted
-pub record FitsLayout (layout : Layout) (plan : Plan) : Type 0 where
-  pub same_scheme : plan.scheme ≡ layout.scheme
-  pub flat_lo : slice_index plan.region.lo 2 ≡ depth_of layout.scheme (slice_index plan.region.lo 2)
-  pub flat_hi : slice_index plan.region.hi 2 ≡ depth_of layout.scheme (slice_index plan.region.hi 2)
-  pub accepted : region_of layout.levels plan.region.level plan.region.lo plan.region.hi ≡ Ok plan.region
 
 -- the subtree is one of the layout and of the root that the next step reads, and no node is an orphan
 pub record FitsSubtree (c : Cursor) (st : Subtree) : Type 0 where

@@ -1,10 +1,12 @@
 -- What a caller that reads the files of a layout knows of a walk (this project's own).
-use Rattle.std.specs.Prelude.{ℕ, ◌≡◌, false, Some}
+use Rattle.std.specs.Prelude.{ℕ, ◌≡◌, Some}
 use Rattle.implicit_tiling.specs.Region.{Region}
 use Rattle.implicit_tiling.specs.Scene.{Layout}
-use Rattle.implicit_tiling.specs.Subtree.{Subtree, IsOf, has_orphan}
 use Rattle.implicit_tiling.specs.Code.{word_tile}
-use Rattle.region_cursor.specs.Cursor.{Cursor, IsWalkOf, IsSameWalk, IsRootKey, FitsSubtree, key_of, next_root}
+use Rattle.region_cursor.specs.Cursor.{Cursor, IsWalkOf, IsSameWalk, IsRootKey, Fits, key_of, next_root}
+use Rattle.tile_walk.specs.Roots.{IsRootTile}
+use Rattle.tile_walk.specs.Outcomes.{IsOutcomeAt}
+use Rattle.tile_walk.specs.declared.outcome.Outcome.{Outcome}
 
 abbrev pub WalksStay : Type 0
 WalksStay = (layout : Layout) (region : Region) (old new : Cursor) → IsWalkOf layout region old → IsSameWalk old new → IsWalkOf layout region new
@@ -12,6 +14,10 @@ WalksStay = (layout : Layout) (region : Region) (old new : Cursor) → IsWalkOf 
 abbrev pub NextRootIsOfTheKey : Type 0
 NextRootIsOfTheKey = (c : Cursor) (key : ℕ) → key_of c ≡ Some key → next_root c ≡ word_tile c.scheme key
 
-abbrev pub SubtreesFit : Type 0
-SubtreesFit = (layout : Layout) (region : Region) (c : Cursor) (key : ℕ) (st : Subtree) → IsWalkOf layout region c → key_of c ≡ Some key → IsRootKey c key
-    → IsOf layout st → has_orphan st ≡ false → st.root ≡ word_tile c.scheme key → FitsSubtree c st
+abbrev pub OutcomesFit : Type 0
+OutcomesFit = (layout : Layout) (region : Region) (c : Cursor) (key : ℕ) (found : Outcome) → IsWalkOf layout region c → key_of c ≡ Some key → IsRootKey c key
+    → IsOutcomeAt layout (word_tile layout.scheme key) found → Fits c found
+
+abbrev pub NextKeysAreOfRootTiles : Type 0
+NextKeysAreOfRootTiles = (layout : Layout) (region : Region) (c : Cursor) (key : ℕ) → IsWalkOf layout region c → IsRootKey c key
+    → IsRootTile layout (word_tile layout.scheme key)

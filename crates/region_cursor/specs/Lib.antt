@@ -1,4 +1,3 @@
-pub mod Outcomes
 pub mod Cursor
 pub mod Moves
 pub mod Walked

@@ -9,8 +9,8 @@ use Rattle.implicit_tiling.specs.Code.{word}
 use Rattle.implicit_tiling.specs.Nodes.{level_words, child_words}
 use Rattle.tile_coords.specs.declared.walk_end.WalkEnd.{WalkEnd}
 use Rattle.tile_coords.specs.declared.walk_end.WalkEnd.TheVariants.{Partial, Complete, TooMany, Fault}
-use Rattle.region_cursor.specs.declared.outcome.Outcome.{Outcome}
-use Rattle.region_cursor.specs.declared.outcome.Outcome.TheVariants.{Good, Bad}
+use Rattle.tile_walk.specs.declared.outcome.Outcome.{Outcome}
+use Rattle.tile_walk.specs.declared.outcome.Outcome.TheVariants.{Good, Bad}
 use Rattle.region_cursor.specs.Cursor.{Cursor, local_level_of, is_last_local, key_of}
 
 -- the walk begins with the root, at level 0

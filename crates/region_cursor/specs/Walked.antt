@@ -1,27 +1,22 @@
 -- The state of a walk after some steps over a scene, by the pairs and steps of the walk (this project's own).
-use Rattle.std.specs.Prelude.{ℕ, ◌≡◌, ◌+◌, ◌<◌, ◌≤◌, ◌++◌, Bool, true, false, List, [], length, take, map, Option, Some, None, slice_get, IsSomeAnd}
+use Rattle.std.specs.Prelude.{ℕ, ◌≡◌, ◌<◌, ◌≤◌, ◌++◌, Bool, true, false, List, [], length, take, map, Option, Some, None, slice_get, IsSomeAnd}
 use Rattle.std.specs.List.{flat_map}
-use Rattle.implicit_tiling.specs.declared.Scheme.{Scheme}
 use Rattle.implicit_tiling.specs.Tile.{Tile}
 use Rattle.implicit_tiling.specs.Region.{Region}
 use Rattle.implicit_tiling.specs.Scene.{Scene}
-use Rattle.implicit_tiling.specs.Availability.{mask}
 use Rattle.implicit_tiling.specs.Answer.{most_tiles}
-use Rattle.implicit_tiling.specs.Code.{word, IsWord}
+use Rattle.implicit_tiling.specs.Code.{word}
 use Rattle.implicit_tiling.specs.Steps.{Pair, pair_of, walk_roots, pairs, steps}
 use Rattle.tile_coords.specs.Ends.{end_seen}
 use Rattle.tile_coords.specs.declared.walk_end.WalkEnd.{WalkEnd}
-use Rattle.tile_coords.specs.declared.walk_end.WalkEnd.TheVariants.{Partial, Complete, TooMany, Fault}
+use Rattle.tile_walk.specs.Walks.{tile_word}
 use Rattle.walk_laws.specs.Children.{roots_below}
 use Rattle.walk_laws.specs.Pairs.{pairs_above, NoPairFaults, tiles_of_pairs}
 use Rattle.region_cursor.specs.Cursor.{Cursor, IsWalkOf, is_last_local, key_of}
 
--- the words of roots, with mask 0, and of tiles with their contents
+-- the word of a root, with mask 0
 abbrev pub root_word : Scene → Tile → ℕ
 root_word s r = word s.layout.scheme r 0
-
-abbrev pub tile_word : Scene → Tile → ℕ
-tile_word s t = word s.layout.scheme t (mask s t)
 
 -- the pairs above a level, and those of the first roots of that level
 abbrev pub pairs_done : Scene → Region → ℕ → ℕ → List Pair
@@ -34,7 +29,7 @@ found_below false s region roots = []
 
 -- A walk that goes on after k steps: k pairs are done and tell no fault; the roots are those of the level, in key order;
 -- the next ones are those below the roots that are done; and the tiles of the pairs were given.
-pub record GoesOn (s : Scene) (region : Region) (k : ℕ) (c : Cursor) : Type 0 where
+pub record IsUnderWay (s : Scene) (region : Region) (k : ℕ) (c : Cursor) : Type 0 where
   pub of_scene : IsWalkOf s.layout region c
   pub within : c.level ≤ region.level
   pub done : k ≡ length (pairs_done s region c.level c.position)
@@ -46,7 +41,7 @@ pub record GoesOn (s : Scene) (region : Region) (k : ℕ) (c : Cursor) : Type 0 
 
 -- the state after k steps: it goes on, or all steps are made
 abbrev pub IsAtBy : Option ℕ → Scene → Region → ℕ → Cursor → Type 0
-IsAtBy (Some key) s region k c = GoesOn s region k c
+IsAtBy (Some key) s region k c = IsUnderWay s region k c
 IsAtBy None s region k c = k ≡ length (steps s region)
 
 abbrev pub IsAt : Scene → Region → ℕ → Cursor → Type 0
@@ -61,10 +56,3 @@ IsNextKey s region k None = k ≡ length (steps s region)
 abbrev pub GivesStep : Scene → Region → ℕ → List ℕ → WalkEnd → Type 0
 GivesStep s region k words end =
     IsSomeAnd (slice_get (steps s region) k) (λ step. (words ≡ map (tile_word s) step.tiles) × (end_seen s.layout.scheme end ≡ step.end))
-
--- the root of a fault is a word
-abbrev pub EndsAtWord : Scheme → WalkEnd → Type 0
-EndsAtWord scheme Partial = Unit {0}
-EndsAtWord scheme Complete = Unit {0}
-EndsAtWord scheme TooMany = Unit {0}
-EndsAtWord scheme (Fault root number) = IsWord scheme root

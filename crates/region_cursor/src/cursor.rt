@@ -6,18 +6,20 @@ ghost use Rattle.implicit_tiling.specs.Subtree.{IsSubtree};
 ghost use Rattle.implicit_tiling.specs.Code.{IsWord};
 ghost use Rattle.implicit_tiling.specs.Answer.{most_tiles};
 ghost use Rattle.implicit_tiling.specs.Nodes.{child_words};
-ghost use Rattle.region_cursor.specs.Cursor.{local_level_of, is_last_local as is_last_local_of, key_of, next_root, Fits, FitsSubtree, FitsLayout, IsCursor, IsRootKey, IsTileWord, IsWalkOf, IsSameWalk};
+ghost use Rattle.region_cursor.specs.Cursor.{local_level_of, is_last_local as is_last_local_of, key_of, next_root, Fits, FitsSubtree, IsCursor, IsRootKey, IsTileWord, IsWalkOf, IsSameWalk};
+ghost use Rattle.tile_walk.specs.Plans.{FitsLayout};
 ghost use Rattle.region_cursor.specs.Moves.{begun, over, next_level, level_after, passed, went_on, with_children, made, made_good, made_bad};
-ghost use Rattle.region_cursor.specs.Outcomes.{outcome_seen};
-ghost use Rattle.region_cursor.specs.Walked.{IsAt, IsNextKey, GivesStep, EndsAtWord};
+ghost use Rattle.tile_walk.specs.Outcomes.{outcome_seen};
+ghost use Rattle.region_cursor.specs.Walked.{IsAt, IsNextKey, GivesStep};
+ghost use Rattle.tile_walk.specs.Walks.{EndsAtWord};
 
-use crate::outcome::Outcome;
 use availability::{Subtree, word_of};
 use region_scan::{child_roots, level_tiles};
 use std::alloc::{AllocError, Global};
 use std::marker::Model;
 use std::mem::swap;
 use tile_coords::{Plan, Region, Scheme, Tile, WalkEnd, Word};
+use tile_walk::Outcome;
 use tileset_json::Layout;
 
 // The most tiles of an answer.
@@ -123,6 +125,7 @@ impl CursorState {
         ensures unchanged { IfErr result (λ e. self.new ≡ self.old) }
         ensures same_words { IfErr result (λ e. words.new.items ≡ words.old.items) }
     {
+        // What every subtree is becomes known here, for the words that it gives.
         let _ = &subtree.scheme;
         let begin = words.len();
         let local = self.local_level();

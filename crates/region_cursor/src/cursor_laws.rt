@@ -1,5 +1,5 @@
 // Laws for callers that read the files of a layout (this project's own).
-ghost use Rattle.region_cursor.specs.Laws.{WalksStay, NextRootIsOfTheKey, SubtreesFit};
+ghost use Rattle.region_cursor.specs.Laws.{WalksStay, NextRootIsOfTheKey, NextKeysAreOfRootTiles, OutcomesFit};
 
 /// A walk stays one of its layout and region.
 pub fn a_walk_stays_of_its_layout()
@@ -11,7 +11,12 @@ pub fn the_next_root_is_of_the_key()
     ensures { NextRootIsOfTheKey }
 {}
 
-/// A subtree of the layout without an orphan that begins with the tile of the next key fits the next step.
-pub fn a_subtree_of_the_key_fits()
-    ensures { SubtreesFit }
+/// The tile of the next key is one with which a subtree of the layout may begin.
+pub fn the_tile_of_the_key_is_a_root()
+    ensures { NextKeysAreOfRootTiles }
+{}
+
+/// What is read of the file of the next key's tile, from any source, fits the next step.
+pub fn an_outcome_of_the_key_fits()
+    ensures { OutcomesFit }
 {}

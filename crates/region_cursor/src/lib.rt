@@ -5,7 +5,8 @@
 
 mod cursor;
 pub mod cursor_laws;
-mod outcome;
 
 pub use cursor::CursorState;
-pub use outcome::Outcome;
+
+#[cfg(test)]
+mod tests;

@@ -1,4 +1,4 @@
-use Rattle.std.proofs.Common.{◌≡◌, ◌<◌, sym, ap, subst, ◌∙◌}
+use Rattle.std.proofs.Common.{◌<◌, sym, ap, subst, ◌∙◌}
 use Rattle.region_cursor.specs.Cursor.{Cursor, is_last_local}
 use Rattle.region_cursor.proofs.Rows.{one_subtree_down}
 use Rattle.region_cursor.proofs.cursor.CursorState.go_below.Goals as goal

@@ -1,6 +1,5 @@
-use Rattle.std.proofs.Common.{◌≡◌, ◌≤◌, ap, subst, sym, arith}
+use Rattle.std.proofs.Common.{subst, arith}
 use Rattle.std.proofs.lemmas.Grind.{common_steps}
-use Rattle.implicit_tiling.specs.Scene.{Layout}
 use Rattle.tileset_json.specs.Limits.{IsWithinLimits}
 use Rattle.region_cursor.proofs.Walked.{begins_as_given}
 use Rattle.region_cursor.proofs.cursor.CursorState.start.Goals as goal

@@ -1,16 +1,13 @@
-use Rattle.std.proofs.Common.{◌≡◌, ◌≤◌, ◌+◌, ℕ, length, subst, sym, ap, ◌∙◌}
+use Rattle.std.proofs.Common.{◌≡◌, ◌+◌, ℕ, subst, sym, ap, ◌∙◌}
 use Rattle.std.specs.Prelude.{◌==◌}
 use Rattle.std.specs.List.{All}
 use Rattle.std.proofs.lemmas.List.Elements.{All-same}
 use Rattle.std.proofs.lemmas.Result.{IfOk-weaker}
 use Rattle.implicit_tiling.specs.Scene.{Scene}
-use Rattle.implicit_tiling.specs.Answer.{most_tiles}
-use Rattle.tile_coords.specs.declared.walk_end.WalkEnd.{WalkEnd}
-use Rattle.region_cursor.specs.declared.outcome.Outcome.{Outcome}
-use Rattle.region_cursor.specs.declared.outcome.Outcome.TheVariants.{Good, Bad}
+use Rattle.tile_walk.specs.declared.outcome.Outcome.TheVariants.{Good, Bad}
 use Rattle.region_cursor.specs.Cursor.{local_level_of, next_root, IsTileWord, Fits}
-use Rattle.region_cursor.specs.Moves.{made_good, made_bad}
-use Rattle.region_cursor.specs.Outcomes.{outcome_seen}
+use Rattle.region_cursor.specs.Moves.{made_good}
+use Rattle.tile_walk.specs.Outcomes.{outcome_seen}
 use Rattle.region_cursor.specs.Walked.{IsAt, GivesStep}
 use Rattle.region_cursor.proofs.Results.{if_all}
 use Rattle.region_cursor.proofs.Words.{words_of_step, no_words_of_fault}
@@ -34,7 +31,7 @@ returns-in-Good-clause-scene c =
     if_all c.step_good.result
     (λ end. c.step_good.new.words.items ≡ (made_good self st).words) (λ end. end ≡ (made_good self st).end) (λ end. c.step_good.new.self ≡ (made_good self st).after)
     (λ end. (s : Scene) (k : ℕ) → IsAt s self.region k self → outcome_seen c.args.outcome.now ≡ s.outcome (next_root self)
-        → GivesStep s self.region k c.step_good.new.words.items end × IsAt s self.region (k + 1) c.step_good.new.self)
+    → GivesStep s self.region k c.step_good.new.words.items end × IsAt s self.region (k + 1) c.step_good.new.self)
     (λ end words end_is after. λ s k is same.
     makes_as_given s self.region k self (Good st) c.step_good.new.words.items end c.step_good.new.self words end_is after is c.requires.key fits c.step_good.ensures.limits (told ∙ same))
     c.step_good.ensures.words c.step_good.ensures.end c.step_good.ensures.after
