@@ -1,5 +1,5 @@
 // The state of a paused walk, and its step.
-ghost use Rattle.std.specs.Prelude.{ℕ, false, true, ◌≡◌, ◌+◌, ◌<◌, ◌≤◌, ◌==◌, [], length, drop, IfOk, IfErr, IfSome, IsSome};
+ghost use Rattle.std.specs.Prelude.{ℕ, false, true, ◌≡◌, ◌+◌, ◌-◌, ◌^◌, ◌<◌, ◌≤◌, ◌==◌, [], length, drop, IfOk, IfErr, IfSome, IsSome};
 ghost use Rattle.std.specs.List.{All};
 ghost use Rattle.implicit_tiling.specs.Scene.{Scene};
 ghost use Rattle.implicit_tiling.specs.Subtree.{IsSubtree};
@@ -83,6 +83,7 @@ impl CursorState {
         ensures key { result ≡ key_of self.now }
         ensures root { IfSome result (IsRootKey self.now) }
         ensures scene { (s : Scene) (k : ℕ) → IsAt s self.now.region k self.now → IsNextKey s self.now.region k result }
+        ensures few { length self.now.roots < 2 ^ 64 }
     {
         self.key()
     }
@@ -166,6 +167,7 @@ impl CursorState {
     fn key(&self) -> Option<Word>
         ensures key { result ≡ key_of self.now }
         ensures limits { IsCursor self.now }
+        ensures few { length self.now.roots < 2 ^ 64 }
     {
         self.roots.get(self.position).copied()
     }

@@ -1,0 +1,94 @@
+use Rattle.std.proofs.Common.{◌≡◌, ◌∙◌, ℕ, ◌++◌, List, rules, ap, sym, subst, arith, Option, Some, length, length-append}
+use Rattle.std.specs.Prelude.{IfSome}
+use Rattle.implicit_tiling.specs.declared.Scheme.{Scheme}
+use Rattle.implicit_tiling.specs.Files.{Files}
+use Rattle.implicit_tiling.specs.Code.{word_tile}
+use Rattle.implicit_tileset.specs.Scene.{scene_of}
+use Rattle.region_cursor.specs.Cursor.{IsRootKey, key_of, next_root}
+use Rattle.tile_walk.specs.Outcomes.{outcome_seen}
+use Rattle.tile_walk.specs.Walks.{EndsAtWord, IsAnswer}
+use Rattle.region_cursor.proofs.Callers.{walk_stays, next_root_of_key, outcome_fits}
+use Rattle.tile_walk.proofs.Reading.{of_told, both_told}
+use Rattle.framed_walk.specs.Frames.{IsHeld}
+use Rattle.framed_walk.specs.Walked.{HasWalked}
+use Rattle.framed_walk.proofs.Turns.{seen, at_rest_again}
+use Rattle.framed_walk.proofs.Steps.{leaves_after, found_more, not_partial, goes_on, is_answer}
+use Rattle.framed_walk.proofs.walk.walk.Goals as goal
+
+pub step-requires-clause-fits : goal.step-requires-clause-fits
+step-requires-clause-fits g c =
+    let inv = c.loop-next.invariant in
+    let cursor = c.loop-next.cursor in
+    let at : key_of cursor ≡ Some c.in-Some.key = sym inv.next_is ∙ c.in-Some.is in
+    let root = subst (λ o. IfSome o (IsRootKey cursor)) c.in-Some.is inv.root in
+    let outcome = seen c.args.layout.now (g.S.FileSource.told c.loop-next.files) c.hold.new.pool c.in-Some.key c.in_ok-frame.frame c.look.result.now c.in_ok-frame.ensures.held c.look.ensures in
+    outcome_fits c.args.layout.now c.args.cursor.now.region cursor c.in-Some.key c.look.result.now inv.of_layout at root outcome.read
+
+pub loop-next-smaller : goal.loop-next-smaller
+loop-next-smaller g c =
+    let inv = c.loop-next.invariant in
+    let cursor = c.loop-next.cursor in
+    let at : key_of cursor ≡ Some c.in-Some.key = sym inv.next_is ∙ c.in-Some.is in
+    let left = leaves_after cursor c.step.new.self c.look.result.now c.in-Some.key c.step.new.words.items at inv.within c.in_ok-end.ensures.after c.in_ok-end.ensures.words in
+    left.lower 18446744073709551616 c.next_key-next-in-Some.ensures.few
+
+pub loop-next-preserved : goal.loop-next-preserved
+loop-next-preserved g c =
+    let inv = c.loop-next.invariant in
+    let layout = c.args.layout.now in
+    let region = c.args.cursor.now.region in
+    let told = g.S.FileSource.told c.args.files.now in
+    let cursor = c.loop-next.cursor in
+    let after = c.step.new.self in
+    let words = c.loop-next.words.items in
+    let more = c.step.new.words.items in
+    let all = c.extend_from_slice.new.self.items in
+    let at : key_of cursor ≡ Some c.in-Some.key = sym inv.next_is ∙ c.in-Some.is in
+    let held = subst (λ (t : Option Files). IsHeld layout t c.in-Some.key c.in_ok-frame.frame c.hold.new.pool) inv.same c.in_ok-frame.ensures.held in
+    let outcome = seen layout told c.hold.new.pool c.in-Some.key c.in_ok-frame.frame c.look.result.now held c.look.ensures in
+    let left = leaves_after cursor after c.look.result.now c.in-Some.key more at inv.within c.in_ok-end.ensures.after c.in_ok-end.ensures.words in
+    let stays = walk_stays layout region cursor after inv.of_layout c.in_ok-end.ensures.same in
+    let is : all ≡ words ++ more = c.in_ok-extend_from_slice.ensures.items ∙ ap (λ (ws : List ℕ). words ++ ws) c.deref.ensures.value in
+    let root_is : next_root cursor ≡ word_tile layout.scheme c.in-Some.key =
+    next_root_of_key cursor c.in-Some.key at ∙ ap (λ (e : Scheme). word_tile e c.in-Some.key) inv.of_layout.same_scheme in
+    record {
+      rest = at_rest_again layout told c.hold.new.pool c.in-Some.key c.in_ok-frame.frame held c.unpin.new.self c.unpin.ensures.after;
+      of_layout = stays;
+      within = left.within;
+      count = omega (arith, left.count, inv.count, ap length is, length-append words more);
+      next_is = c.next_key-next-in-Some.ensures.key;
+      root = c.next_key-next-in-Some.ensures.root;
+      few = c.next_key-next-in-Some.ensures.few;
+      found = found_more layout.scheme cursor.scheme cursor.contents cursor.count words more all inv.found inv.count inv.of_layout.same_scheme
+          c.in_ok-end.ensures.are_words c.in_ok-end.ensures.few is;
+      end_is = subst (λ (e : Scheme). EndsAtWord e c.in_ok-end.end) inv.of_layout.same_scheme c.in_ok-end.ensures.root;
+      over = λ none partial. not_partial cursor c.look.result.now (sym c.in_ok-end.ensures.end ∙ partial)
+          (ap key_of (sym c.in_ok-end.ensures.after) ∙ sym c.next_key-next-in-Some.ensures.key ∙ none);
+      walked =
+          both_told told
+          (λ files. HasWalked (scene_of files layout) region cursor c.loop-next.next words c.loop-next.end)
+          (λ files. (scene_of files layout).outcome (word_tile layout.scheme c.in-Some.key) ≡ outcome_seen c.look.result.now)
+          (λ files. HasWalked (scene_of files layout) region after c.next_key-next-in-Some.result all c.in_ok-end.end)
+          (λ files w o.
+          let s = scene_of files layout in
+          let read : outcome_seen c.look.result.now ≡ s.outcome (next_root cursor) = sym o ∙ ap s.outcome (sym root_is) in
+          goes_on s region cursor after c.loop-next.next c.next_key-next-in-Some.result words more all c.loop-next.end c.in_ok-end.end inv.of_layout.same_region stays.same_region
+          (λ k stands. c.in_ok-end.ensures.scene s k stands read)
+          (λ k stands. c.next_key-next-in-Some.ensures.scene s k stands) is w)
+          inv.walked outcome.of_scene;
+      later = search rules;
+      same = search rules;
+    }
+
+pub returns-clause-answer : goal.returns-clause-answer
+returns-clause-answer g c =
+    let layout = c.args.layout.now in
+    let region = c.args.cursor.now.region in
+    let inv = c.loop-next.invariant in
+    of_told (g.S.FileSource.told c.args.files.now)
+    (λ files. HasWalked (scene_of files layout) region c.loop-next.cursor c.loop-next.next c.loop-next.words.items c.loop-next.end)
+    (λ files. IsAnswer (scene_of files layout) region c.loop-next.words.items c.loop-next.end)
+    (λ files w. is_answer (scene_of files layout) region c.loop-next.cursor c.loop-next.words.items c.loop-next.end
+    (subst (λ (o : Option ℕ). HasWalked (scene_of files layout) region c.loop-next.cursor o c.loop-next.words.items c.loop-next.end) c.in_default.is w)
+    c.requires.of_layout.some_levels c.requires.region)
+    inv.walked
