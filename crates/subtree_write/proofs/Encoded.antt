@@ -6,7 +6,7 @@ use Rattle.serde_json.specs.Written.{has_float, items_have_float, members_have_f
 use Rattle.bitstream.specs.Bytes.{bytes_filled}
 use Rattle.implicit_tiling.specs.Subtree.{Subtree}
 use Rattle.subtree_write.specs.declared.streams.Streams.{Streams}
-use Rattle.subtree_write.specs.Canonical.{aligned, is_mixed, has_one, streams_of, availabilities, streams, binary, stream_bytes, view_values, buffer_values, constant_value, stream_value, availability_value, availability_values, list_member, file_value, json_value}
+use Rattle.subtree_write.specs.Canonical.{aligned, is_mixed, has_one, streams_of, availabilities_of, streams, binary, stream_bytes, view_values, buffer_values, constant_value, stream_value, availability_value, availability_values, list_member, file_value, json_value}
 use Rattle.subtree_write.specs.Added.{Adds}
 use Rattle.subtree_write.proofs.Mixed.{ones}
 use Rattle.subtree_write.proofs.Added.{added_then, views_more}
@@ -60,7 +60,7 @@ pub record Written (s : Subtree) (before tiled filled after : Streams) : Type 0 
   pub contents : Adds tiled filled s.contents
   pub child : Adds filled after (s.child ∷ [])
 
-all_added : (s : Subtree) (before tiled filled after : Streams) → Written s before tiled filled after → Adds before after (availabilities s)
+all_added : (s : Subtree) (before tiled filled after : Streams) → Written s before tiled filled after → Adds before after (availabilities_of s)
 all_added s before tiled filled after w = added_then before tiled after (s.tiles ∷ []) (s.contents ++ s.child ∷ []) w.tiles (added_then tiled filled after s.contents (s.child ∷ []) w.contents w.child)
 
 pub written_bytes : (s : Subtree) (before tiled filled after : Streams) → Written s before tiled filled after → after.bytes.items ≡ binary s

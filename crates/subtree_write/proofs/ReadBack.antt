@@ -15,7 +15,7 @@ use Rattle.implicit_tiling.specs.Scene.{Layout, good, bad}
 use Rattle.implicit_tiling.specs.Subtree.{Subtree, IsSubtree, IsOf, node_count, child_count, bits_of}
 use Rattle.implicit_tileset.specs.Record.{Availability, well_formed, SubtreeRecord, record_of}
 use Rattle.implicit_tileset.specs.SubtreeFile.{Used, Held, names_no_view, is_external, is_out, is_short, is_miscounted, raw_bits, parts_of, and_then, availabilities, used_of, subtree_from, subtree_checked, subtree_held, subtree_recorded, subtree_of, outcome_from, outcome_in}
-use Rattle.subtree_write.specs.Canonical.{aligned, padded, is_mixed, streams_of, availabilities as availabilities_in, streams, binary, stream_bytes, view_values, availability_value, availability_values, json_value, json_part, file_of, canonical}
+use Rattle.subtree_write.specs.Canonical.{aligned, padded, is_mixed, streams_of, availabilities_of, streams, binary, stream_bytes, view_values, availability_value, availability_values, json_value, json_part, file_of, canonical}
 use Rattle.subtree_write.specs.Reading.{KeepsRules, CanonicalFilesReadBack, CanonicalFilesAreGood}
 use Rattle.subtree_write.proofs.Added.{length-padded, length-stream}
 use Rattle.bitstream.specs.Bytes.{bytes_filled, bytes_of_bits}
@@ -40,7 +40,7 @@ contents_short n [] last h k all = (k, tt)
 contents_short n (bits ∷ contents) last h k all =
     (let own = all 0 [] (omega arith) in omega arith, contents_short n contents last h k (λ i d lt. all (suc i) d (omega arith)))
 
-all_short : (s : Subtree) → IsSubtree s → AreShort (availabilities_in s)
+all_short : (s : Subtree) → IsSubtree s → AreShort (availabilities_of s)
 all_short s w =
     let fit = nodes_fit s.scheme s.levels w.few_levels in
     (omega (arith, fit.0, w.tile_bits), contents_short (node_count s.scheme s.levels) s.contents s.child fit.0 (omega (arith, fit.1, w.child_bits)) w.content_bits)
@@ -73,7 +73,7 @@ items_more : (long : ℕ) (ds : _) → ItemsRead 1 long ds → long ≤ 2000 →
 items_more long ds r h = record { whole = r.whole; numbers = r.numbers; shallow = r.shallow; utf8 = r.utf8; short = λ later. omega (arith, r.short later) }
 
 -- the availabilities of a subtree are at most ten
-ten : (s : Subtree) → IsSubtree s → length (availabilities_in s) ≤ 10
+ten : (s : Subtree) → IsSubtree s → length (availabilities_of s) ≤ 10
 ten s w = omega (arith, w.few_contents, length-append s.contents (s.child ∷ []))
 
 value_reads : (s : Subtree) → IsSubtree s → ReadsAs 3 5000 (json_value s)
@@ -81,9 +81,9 @@ value_reads s w =
     let xs = streams s in
     let short = all_short s w in
     let few = ten s w in
-    let views = streams_few (availabilities_in s) in
+    let views = streams_few (availabilities_of s) in
     let fit = nodes_fit s.scheme s.levels w.few_levels in
-    let streamed = streams_short (availabilities_in s) short in
+    let streamed = streams_short (availabilities_of s) short in
     let first = streams_few (s.tiles ∷ []) in
     let second = streams_few (s.tiles ∷ s.contents) in
     file_reads (view_values 0 xs) (length (binary s)) (availability_value 0 s.tiles) (availability_values (length (streams_of (s.tiles ∷ []))) s.contents) (availability_value (length (streams_of (s.tiles ∷ s.contents))) s.child)
@@ -216,11 +216,11 @@ own_reads_back s template templates w rules few =
     let size = length (binary s) in
     let contents = all_stated b s.contents in
     let h = held_of xs (stated 0 s.tiles) (map well_formed contents) (stated c s.child) in
-    let bytes_short : length (binary s) < 2 ^ 64 = omega (arith, bytes_few xs (streams_short (availabilities_in s) (all_short s w)), streams_few (availabilities_in s), ten s w) in
+    let bytes_short : length (binary s) < 2 ^ 64 = omega (arith, bytes_few xs (streams_short (availabilities_of s) (all_short s w)), streams_few (availabilities_of s), ten s w) in
     let holds : HoldsIt h contents s = record {
-      tiles = names_own (stated 0 s.tiles) (map well_formed contents) (stated c s.child) (availabilities_in s) [] s.tiles (s.contents ++ s.child ∷ []) refl;
-      contents_all = all_name (stated 0 s.tiles) (map well_formed contents) (stated c s.child) (availabilities_in s) (s.tiles ∷ []) s.contents (s.child ∷ []) refl;
-      child = names_own (stated 0 s.tiles) (map well_formed contents) (stated c s.child) (availabilities_in s) (s.tiles ∷ s.contents) s.child [] refl;
+      tiles = names_own (stated 0 s.tiles) (map well_formed contents) (stated c s.child) (availabilities_of s) [] s.tiles (s.contents ++ s.child ∷ []) refl;
+      contents_all = all_name (stated 0 s.tiles) (map well_formed contents) (stated c s.child) (availabilities_of s) (s.tiles ∷ []) s.contents (s.child ∷ []) refl;
+      child = names_own (stated 0 s.tiles) (map well_formed contents) (stated c s.child) (availabilities_of s) (s.tiles ∷ s.contents) s.child [] refl;
     } in
     assembled (own_layout s template templates) s.root (canonical s) (json_part s) (binary s) h.parts s
     (parts_of-file (json_part s) (binary s) (part_short text reads.short) bytes_short)
@@ -249,5 +249,5 @@ text_short text h = omega (arith, length-padded 32 text)
 
 pub canonical_files_are_good : CanonicalFilesAreGood
 canonical_files_are_good layout s w of rules =
-    let few : length (binary s) ≤ 2 ^ 18 * 10 = omega (arith, bytes_few (streams s) (streams_short (availabilities_in s) (all_short s w)), streams_few (availabilities_in s), ten s w) in
+    let few : length (binary s) ≤ 2 ^ 18 * 10 = omega (arith, bytes_few (streams s) (streams_short (availabilities_of s) (all_short s w)), streams_few (availabilities_of s), ten s w) in
     good_from layout s.root (canonical s) s (file_short (json_part s) (binary s) (text_short (compact_text (json_value s)) (value_reads s w).short) few) (canonical_files_read_back layout s w of rules)

@@ -28,11 +28,11 @@ abbrev pub streams_of : List (List Bool) → List (List Bool)
 streams_of availabilities = filter is_mixed availabilities
 
 -- the availabilities of tiles, of contents and of child subtrees, in this order
-abbrev pub availabilities : Subtree → List (List Bool)
-availabilities s = s.tiles ∷ (s.contents ++ s.child ∷ [])
+abbrev pub availabilities_of : Subtree → List (List Bool)
+availabilities_of s = s.tiles ∷ (s.contents ++ s.child ∷ [])
 
 abbrev pub streams : Subtree → List (List Bool)
-streams s = streams_of (availabilities s)
+streams s = streams_of (availabilities_of s)
 
 -- ---- the binary part
 

@@ -64,7 +64,7 @@ impl Streams {
     }
 }
 
-/// Fills up what stands behind `size` bytes to a multiple of 8.
+/// Fills up the last `size` bytes to a multiple of 8.
 pub(crate) fn pad(out: &mut Vec<u8>, size: usize, fill: u8) -> Result<(), AllocError>
     ensures ok { OnOk result (out.new.items ≡ out.old.items ++ replicate (aligned size - size) fill) }
     ensures err { OnErr result (out.new.items ≡ out.old.items) }
