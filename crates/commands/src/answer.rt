@@ -8,12 +8,16 @@ ghost use Rattle.commands.specs.Replies.{Replies, IsBeforeWriting, line_reply, p
 ghost use Rattle.tile_walk.specs.Plans.{FitsLayout};
 
 use crate::status::Status;
+use framed_walk::framed;
 use request_text::{parse_line, write_answer, write_refusal};
 use scene_ports::{FileSource, GiveFault, Outlet};
 use std::alloc::Global;
 use tile_coords::{Plan, WalkEnd};
-use tile_walk::{WalkStop, fresh};
+use tile_walk::WalkStop;
 use tileset_json::Layout;
+
+/// The frames that hold decoded subtrees while an answer is walked.
+const FRAMES: usize = 4;
 
 /// Gives the answer to a request line, or its refusal.
 pub(crate) fn answer_line<S: FileSource, O: Outlet>(
@@ -55,7 +59,7 @@ fn answer_plan<S: FileSource, O: Outlet>(
     // The scheme is read so that the limits of the layout are known.
     let _scheme = layout.scheme;
     let mut words = Vec::new(alloc);
-    let end = match fresh(alloc, files, layout, plan, &mut words) {
+    let end = match framed(alloc, files, layout, plan, FRAMES, &mut words) {
         Ok(end) => end,
         Err(WalkStop::ReadFault) => return Status::ReadFault,
         Err(WalkStop::Memory) => return Status::Memory,
