@@ -48,7 +48,7 @@ loop-next-preserved g c =
     let outcome = seen layout told c.hold.new.pool c.in-Some.key c.in_ok-frame.frame c.look.result.now held c.look.ensures in
     let left = leaves_after cursor after c.look.result.now c.in-Some.key more at inv.within c.in_ok-end.ensures.after c.in_ok-end.ensures.words in
     let stays = walk_stays layout region cursor after inv.of_layout c.in_ok-end.ensures.same in
-    let is : all ≡ words ++ more = c.in_ok-extend_from_slice.ensures.items ∙ ap (λ (ws : List ℕ). words ++ ws) c.deref.ensures.value in
+    let is : all ≡ words ++ more = subst (λ (ws : List ℕ). all ≡ words ++ ws) c.deref.ensures.value c.in_ok-extend_from_slice.ensures.items in
     let root_is : next_root cursor ≡ word_tile layout.scheme c.in-Some.key =
     next_root_of_key cursor c.in-Some.key at ∙ ap (λ (e : Scheme). word_tile e c.in-Some.key) inv.of_layout.same_scheme in
     record {
