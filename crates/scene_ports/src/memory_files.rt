@@ -59,7 +59,12 @@ impl FileSource for MemoryFiles {
 }
 
 // The answer of a source that holds these files.
-fn read_file(files: &[(String, Vec<u8>)], name: &str, limit: usize, out: &mut Vec<u8>) -> Fetch
+pub(crate) fn read_file(
+    files: &[(String, Vec<u8>)],
+    name: &str,
+    limit: usize,
+    out: &mut Vec<u8>,
+) -> Fetch
     requires { out.old.items ≡ [] }
     ensures found { Answers (file name.now (files_of files.now)) limit out.new.items result }
     ensures fits { vec_len out.new ≤ limit }

@@ -2,7 +2,8 @@
 // real world do.
 use crate::{
     FULL, Fetch, FileKeeper, FileSource, Folder, Give, GiveFault, Inlet, MemoryFiles, MemoryKeeper,
-    MemoryLink, Outlet, Put, ReadInlet, Take, WriteOutlet, give_all, give_rest, give_when_full,
+    MemoryLink, Outlet, Put, ReadInlet, SureFiles, Take, WriteOutlet, give_all, give_rest,
+    give_when_full,
 };
 use std::alloc::{AllocError, Global};
 use std::fs;
@@ -32,6 +33,27 @@ fn files_in_memory(rt: HostRuntime) -> Result<(), Fail> {
     let rows: [(&str, usize, Fetch, usize); 6] = [
         ("a", 3, Fetch::Whole, 3),
         ("a", 3, Fetch::Failed, 0),
+        ("a", 3, Fetch::Whole, 3),
+        ("a", 2, Fetch::TooLong, 0),
+        ("c", 2, Fetch::Missing, 0),
+        ("b", 0, Fetch::Whole, 0),
+    ];
+    for (name, limit, wanted, length) in rows {
+        assert!(rt; source.fetch(name, limit, &mut out) == wanted);
+        assert!(rt; out.len() == length);
+    }
+    Ok(())
+}
+
+#[test]
+fn files_that_never_fail(rt: HostRuntime) -> Result<(), Fail> {
+    let alloc = rt.alloc();
+    let twice = vec![in alloc; pair(alloc, "a", b"1")?, pair(alloc, "a", b"2")?]?;
+    assert!(rt; SureFiles::new(twice).is_none());
+    let files = vec![in alloc; pair(alloc, "a", b"xyz")?, pair(alloc, "b", b"")?]?;
+    let mut source = SureFiles::new(files).expect(&rt, "distinct names");
+    let mut out = vec![in alloc; 7]?;
+    let rows: [(&str, usize, Fetch, usize); 4] = [
         ("a", 3, Fetch::Whole, 3),
         ("a", 2, Fetch::TooLong, 0),
         ("c", 2, Fetch::Missing, 0),
