@@ -6,6 +6,7 @@ the plain rules of the standard in this file, and never taken from the program."
 import json
 import os
 import shutil
+import socket
 import struct
 import subprocess
 import sys
@@ -173,6 +174,27 @@ def shell(name, files, command, wanted, note):
         shutil.rmtree(folder)
 
 
+def pieces(name, files, words):
+    """Runs the program with a socket for its output, which keeps writes apart: each has at most 65,536 bytes, and all but
+    the last have at least half of that."""
+    folder = tempfile.mkdtemp(prefix="view ")
+    try:
+        write_files(folder, files)
+        wanted = subprocess.run([PROGRAM] + words, cwd=folder, capture_output=True, timeout=120).stdout
+        ours, theirs = socket.socketpair(socket.AF_UNIX, socket.SOCK_SEQPACKET)
+        with ours:
+            with theirs:
+                program = subprocess.Popen([PROGRAM] + words, cwd=folder, stdin=subprocess.DEVNULL, stdout=theirs)
+            taken = list(iter(lambda: ours.recv(1 << 20), b""))
+        sizes = [len(piece) for piece in taken]
+        problems = [] if program.wait(120) == 0 and b"".join(taken) == wanted else ["the pieces aren't the text"]
+        if len(sizes) < 2 or max(sizes) > 65536 or min(sizes[:-1]) < 32768:
+            problems.append(f"pieces of {sizes} bytes")
+        report(name, problems)
+    finally:
+        shutil.rmtree(folder)
+
+
 def set_view(number, member, value):
     def change(record):
         record["bufferViews"][number][member] = value
@@ -263,6 +285,7 @@ def layout_cases():
     bad("too_many_levels", tileset("QUADTREE", 2, 27, NAME), 8)
     bad("a_template_with_a_line_feed", tileset("QUADTREE", 2, 2, "a\nb"), 9)
     bad("both_contents", tileset("QUADTREE", 2, 2, NAME, contents=["a"], content="b"), 10)
+    bad("a_content_without_its_uri", tileset("QUADTREE", 2, 2, NAME).replace(b'"implicitTiling"', b'"content":{},"implicitTiling"'), 11)
     bad("nine_contents", tileset("QUADTREE", 2, 2, NAME, contents=["a"] * 9), 12)
 
 
@@ -277,6 +300,11 @@ def device_cases():
     run("names_with_spaces_and_escapes", files, ["tiles", "0", "0,0", "0,0"], lines("0|0|0|c 0-0%2F0.glb", "end|complete|1"))
     shell("a_closed_pipe", tileset_b(9, 18), '"$VIEW" tiles 16 0,0 0,32767 | head -n 1; echo "${PIPESTATUS[0]}"',
           lines("0|0|0") + "5\n", "the first line and the status of a write fault")
+    pieces("pieces_of_short_lines", tileset_b(9, 18), ["tiles", "16", "0,0", "0,32767"])
+    long = pack('{"childSubtreeAvailability":{"constant":1},"contentAvailability":[' + ",".join(['{"constant":1}'] * 8)
+                + '],"tileAvailability":{"constant":1}}')
+    pieces("pieces_of_the_longest_lines", {"tileset.json": tileset("QUADTREE", 9, 26, "all.subtree", contents=["{x}" * 341] * 8),
+                                           "all.subtree": long}, ["tiles", "25", "33554431,33554431", "33554431,33554431"])
     shell("a_whole_answer_through_a_pipe", tileset_b(9, 18), '"$VIEW" tiles 16 0,0 0,32767 | wc -l', "65537\n", "65,537 lines")
 
 
