@@ -1,76 +1,110 @@
--- The words of a command: how many there are, and the one that is passed over.
-use Rattle.std.proofs.Common.{◌≡◌, ◌≢◌, ℕ, suc, ◌+◌, ◌<◌, ◌≤◌, Bool, true, false, List, [], ◌∷◌, length, get_or, refl, ap, ◌∙◌, arith, cond, codes}
-use Rattle.std.specs.Prelude.{Option, Some, None, option_and_then, option_map}
-use Rattle.std.specs.List.{join_with_byte}
+-- The words of a command: a word that begins with a hyphen is neither a number nor coordinates.
+use Rattle.std.proofs.Common.{◌≡◌, ◌≢◌, ℕ, Bool, true, false, List, [], ◌∷◌, refl, ap, ◌∙◌, arith, length, is_some}
+use Rattle.std.specs.Prelude.{Option, Some, None, option_and_then, option_map, ◌||◌, ◌&&◌, ◌==◌, ◌^◌, if◌then◌else◌, nat_lt}
+use Rattle.std.specs.List.{join_with_byte, list_any, slice_split, onto_first}
 use Rattle.std.specs.Str.{bytes_eq}
-use Rattle.std.proofs.lemmas.Slice.Eq.{bytes_eq-Decides}
-use Rattle.implicit_tiling.specs.Request.{Line, number, coordinates, line_of_words}
-use Rattle.commands.specs.Words.{tiles, tiles_asked, check_asked, without_dashes}
+use Rattle.std.specs.Str.Parse.{digits_value}
+use Rattle.std.proofs.lemmas.Bool.Decides.{nat_tests}
+use Rattle.clap.specs.Lexer.{long_of, short_of}
+use Rattle.implicit_tiling.specs.Request.{Line, begins_well, number, numbers, numbers_of_pieces, coordinates, line_of_words}
+use Rattle.commands.specs.Values.{AskNothing}
+use Rattle.commands.specs.Words.{tiles, tiles_asked, without_dashes}
+
+-- a word before `--` begins with a hyphen, and is not `-`
+abbrev pub has_flag : List (List ℕ) → Bool
+has_flag [] = false
+has_flag (w ∷ ws) = if bytes_eq w (45 ∷ 45 ∷ []) then false else is_some (long_of w) || (is_some (short_of w) || has_flag ws)
+
+abbrev begins_with_hyphen : List ℕ → Bool
+begins_with_hyphen [] = false
+begins_with_hyphen (c ∷ cs) = c == 45
+
+no_bool : false ≡ true → ⊥
+no_bool h = grind (arith, h)
+
+pub true_of : (b : Bool) → (b ≡ false → ⊥) → b ≡ true
+true_of true h = refl
+true_of false h = absurd (h refl)
 
 -- other numbers of words
-not_three : (words : List (List ℕ)) → length words ≢ 3 → tiles_asked words ≡ None
+pub not_three : (words : List (List ℕ)) → length words ≢ 3 → tiles_asked words ≡ None
 not_three [] n = refl
 not_three (a ∷ []) n = refl
 not_three (a ∷ b ∷ []) n = refl
 not_three (a ∷ b ∷ c ∷ []) n = absurd (n refl)
 not_three (a ∷ b ∷ c ∷ d ∷ more) n = refl
 
-without_one : (word : List ℕ) (words rest : List (List ℕ)) (dashes : Bool) → length rest ≤ length words → length words ≤ length rest + 1
-    → (length (cond dashes words (word ∷ rest)) ≤ suc (length words)) × (suc (length words) ≤ length (cond dashes words (word ∷ rest)) + 1)
-without_one word words rest true low high = (omega arith, omega arith)
-without_one word words rest false low high = (omega arith, omega arith)
+-- ---- a word before `--` that begins with a hyphen is among those without `--`
 
-length-without : (words : List (List ℕ)) → (length (without_dashes words) ≤ length words) × (length words ≤ length (without_dashes words) + 1)
-length-without [] = (omega arith, omega arith)
-length-without (word ∷ words) = without_one word words (without_dashes words) (bytes_eq word (codes "--")) (length-without words).0 (length-without words).1
+hyphen_of : (b : Bool) (c : ℕ) (cs : List ℕ) (more : Bool) → (c == 45) ≡ b → (is_some (long_of (c ∷ cs)) || (is_some (short_of (c ∷ cs)) || more)) ≡ true → (b || more) ≡ true
+hyphen_of true c cs more is h = refl
+hyphen_of false c cs more is h = rw is at h
 
-pub too_few_words : (words : List (List ℕ)) → length words < 3 → tiles_asked (without_dashes words) ≡ None
-too_few_words words few = not_three (without_dashes words) (λ e. omega (arith, e, (length-without words).0))
+hyphen_first : (w : List ℕ) (more : Bool) → (is_some (long_of w) || (is_some (short_of w) || more)) ≡ true → (begins_with_hyphen w || more) ≡ true
+hyphen_first [] more h = h
+hyphen_first (c ∷ cs) more h = hyphen_of (c == 45) c cs more refl h
 
-pub too_many_words : (words : List (List ℕ)) → 4 < length words → tiles_asked (without_dashes words) ≡ None
-too_many_words words many = not_three (without_dashes words) (λ e. omega (arith, e, (length-without words).1))
+or_later : (a b c : Bool) → (b ≡ true → c ≡ true) → (a || b) ≡ true → (a || c) ≡ true
+or_later true b c more h = refl
+or_later false b c more h = more h
 
--- more words than the dashes are no check
-some_words : (words : List (List ℕ)) → 0 < length words → check_asked words ≡ None
-some_words [] some = absurd (omega (arith, some))
-some_words (word ∷ words) some = refl
+hyphened_by : (b : Bool) (w : List ℕ) (ws : List (List ℕ)) → bytes_eq w (45 ∷ 45 ∷ []) ≡ b → has_flag (w ∷ ws) ≡ true
+    → (has_flag ws ≡ true → list_any begins_with_hyphen (without_dashes ws) ≡ true) → list_any begins_with_hyphen (without_dashes (w ∷ ws)) ≡ true
+hyphened_by true w ws is h more = absurd (no_bool (rw is at h))
+hyphened_by false w ws is h more = rw is (or_later (begins_with_hyphen w) (has_flag ws) _ more (hyphen_first w (has_flag ws) (rw is at h)))
 
-pub words_of_a_check : (words : List (List ℕ)) → 1 < length words → check_asked (without_dashes words) ≡ None
-words_of_a_check words many = some_words (without_dashes words) (omega (arith, many, (length-without words).1))
+hyphened : (ws : List (List ℕ)) → has_flag ws ≡ true → list_any begins_with_hyphen (without_dashes ws) ≡ true
+hyphened [] h = absurd (no_bool h)
+hyphened (w ∷ ws) h = hyphened_by (bytes_eq w (45 ∷ 45 ∷ [])) w ws refl h (hyphened ws)
+
+-- ---- such a word is no number, and no coordinates
+
+never : (a b : Bool) (o : Option ℕ) → (if (a && false) && b then o else None) ≡ None
+never true b o = refl
+never false b o = refl
+
+number_from_hyphen : (cs : List ℕ) → number (45 ∷ cs) ≡ None
+number_from_hyphen cs = never (begins_well (45 ∷ cs)) (nat_lt (digits_value 10 (45 ∷ cs)) (2 ^ 32)) _
+
+if_none : {A : Type 0} (b : Bool) (o : Option A) → o ≡ None → (if b then o else None) ≡ None
+if_none true o h = h
+if_none false o h = refl
+
+pieces_from_hyphen : (pieces : List (List ℕ)) → numbers_of_pieces (onto_first 45 pieces) ≡ None
+pieces_from_hyphen [] = refl
+pieces_from_hyphen (piece ∷ pieces) = if_none _ (numbers ((45 ∷ piece) ∷ pieces)) (ap (option_and_then _) (number_from_hyphen piece))
+
+is_hyphen : (c : ℕ) → (c == 45) ≡ true → c ≡ 45
+is_hyphen c h = grind (arith, nat_tests, h)
+
+no_number : (w : List ℕ) → begins_with_hyphen w ≡ true → number w ≡ None
+no_number [] h = absurd (no_bool h)
+no_number (c ∷ cs) h = ap (λ d. number (d ∷ cs)) (is_hyphen c h) ∙ number_from_hyphen cs
+
+no_coordinates : (w : List ℕ) → begins_with_hyphen w ≡ true → coordinates w ≡ None
+no_coordinates [] h = absurd (no_bool h)
+no_coordinates (c ∷ cs) h = ap (λ d. coordinates (d ∷ cs)) (is_hyphen c h) ∙ pieces_from_hyphen (slice_split (λ d. d == 44) cs)
 
 none_after : {A : Type 0} (o : Option A) (f : A → Option Line) → ((n : A) → f n ≡ None) → option_and_then f o ≡ None
 none_after None f h = refl
 none_after (Some n) f h = h n
 
-is_dashes : (word : List ℕ) → bytes_eq word (codes "--") ≡ true → word ≡ codes "--"
-is_dashes word h = (bytes_eq-Decides word (codes "--")).0 h
+no_line : (a b c : List ℕ) (x y z : Bool) → begins_with_hyphen a ≡ x → begins_with_hyphen b ≡ y → begins_with_hyphen c ≡ z
+    → (x || (y || (z || false))) ≡ true → line_of_words (a ∷ b ∷ c ∷ []) ≡ None
+no_line a b c true y z p q r h = ap (option_and_then _) (no_number a p)
+no_line a b c false true z p q r h = none_after (number a) _ (λ n. ap (option_and_then _) (no_coordinates b q))
+no_line a b c false false true p q r h = none_after (number a) _ (λ n. none_after (coordinates b) _ (λ l. ap (option_map _) (no_coordinates c r)))
+no_line a b c false false false p q r h = absurd (no_bool h)
 
 none_asked : (words : List (List ℕ)) → line_of_words words ≡ None → tiles_asked words ≡ None
 none_asked words none = ap (option_map (λ line. tiles (join_with_byte 32 words))) none
 
--- a word `--` among three is neither a number nor a list
-third : (a b c : List ℕ) (is : Bool) → bytes_eq c (codes "--") ≡ is → tiles_asked (a ∷ b ∷ c ∷ []) ≡ tiles_asked (a ∷ b ∷ cond is [] (c ∷ []))
-third a b c true h = ap (λ w. tiles_asked (a ∷ b ∷ w ∷ [])) (is_dashes c h)
-    ∙ none_asked (a ∷ b ∷ codes "--" ∷ []) (none_after (number a) _ (λ n. none_after (coordinates b) _ (λ l. refl)))
-third a b c false h = refl
+nothing_asked : (words : List (List ℕ)) → list_any begins_with_hyphen words ≡ true → AskNothing words
+nothing_asked [] h = absurd (no_bool h)
+nothing_asked (a ∷ []) h = (refl, refl)
+nothing_asked (a ∷ b ∷ []) h = (refl, refl)
+nothing_asked (a ∷ b ∷ c ∷ []) h = (none_asked (a ∷ b ∷ c ∷ []) (no_line a b c _ _ _ refl refl refl h), refl)
+nothing_asked (a ∷ b ∷ c ∷ d ∷ more) h = (refl, refl)
 
-second : (a b c : List ℕ) (is : Bool) → bytes_eq b (codes "--") ≡ is → tiles_asked (a ∷ b ∷ c ∷ []) ≡ tiles_asked (a ∷ cond is (c ∷ []) (b ∷ without_dashes (c ∷ [])))
-second a b c true h = ap (λ w. tiles_asked (a ∷ w ∷ c ∷ [])) (is_dashes b h) ∙ none_asked (a ∷ codes "--" ∷ c ∷ []) (none_after (number a) _ (λ n. refl))
-second a b c false h = third a b c (bytes_eq c (codes "--")) refl
-
-first : (a b c : List ℕ) (is : Bool) → bytes_eq a (codes "--") ≡ is → tiles_asked (a ∷ b ∷ c ∷ []) ≡ tiles_asked (cond is (b ∷ c ∷ []) (a ∷ without_dashes (b ∷ c ∷ [])))
-first a b c true h = ap (λ w. tiles_asked (w ∷ b ∷ c ∷ [])) (is_dashes a h)
-first a b c false h = second a b c (bytes_eq b (codes "--")) refl
-
-pub three_words : (a b c : List ℕ) → tiles_asked (a ∷ b ∷ c ∷ []) ≡ tiles_asked (without_dashes (a ∷ b ∷ c ∷ []))
-three_words a b c = first a b c (bytes_eq a (codes "--")) refl
-
-pub list_of_three : {X : Type 0} (xs : List X) (a b c : X) → length xs ≡ 3 → a ≡ get_or xs 0 a → b ≡ get_or xs 1 b → c ≡ get_or xs 2 c → xs ≡ a ∷ b ∷ c ∷ []
-list_of_three [] a b c n e f g = absurd (omega (arith, n))
-list_of_three (x ∷ []) a b c n e f g = absurd (omega (arith, n))
-list_of_three (x ∷ y ∷ []) a b c n e f g = absurd (omega (arith, n))
-list_of_three (x ∷ y ∷ z ∷ []) a b c n e f g = rw (e, f, g) refl
-list_of_three (x ∷ y ∷ z ∷ w ∷ more) a b c n e f g = absurd (omega (arith, n))
-
-pub same_words : (a b c x y z : List ℕ) → x ≡ a → y ≡ b → z ≡ c → tiles_asked (x ∷ y ∷ z ∷ []) ≡ tiles_asked (without_dashes (a ∷ b ∷ c ∷ []))
-same_words a b c x y z e f g = rw (e, f, g) (three_words a b c)
+pub flags_ask_nothing : (words : List (List ℕ)) → has_flag words ≡ true → AskNothing (without_dashes words)
+flags_ask_nothing words h = nothing_asked (without_dashes words) (hyphened words h)

@@ -1,8 +1,12 @@
 // The words of a command line.
-ghost use Rattle.std.specs.Prelude.{◌≡◌, ◌∷◌, [], map, string_bytes, IfOk};
+ghost use Rattle.std.specs.Prelude.{◌≡◌, ◌∷◌, [], Err, drop, length, map, string_bytes, IfOk};
 ghost use Rattle.std.specs.List.{join_with_byte};
+ghost use Rattle.clap.specs.Words.{app_of};
+ghost use Rattle.commands.specs.Values.{AskNothing, command, values_of};
 ghost use Rattle.commands.specs.Words.{asked, tiles_asked, check_asked, without_dashes, Reads};
 
+use clap::error::ErrorKind;
+use clap::{Arg, ArgMatches, Command};
 use request_text::{is_coordinates, is_number};
 use std::alloc::{AllocError, Global};
 
@@ -39,39 +43,38 @@ impl From<AllocError> for WordFault {
 pub fn words_of(alloc: Global, words: &[String]) -> Result<Asked, WordFault>
     ensures { Reads (asked (map string_bytes words.now)) result }
 {
-    let Some((name, words)) = words.split_first() else {
+    let Some((name, _)) = words.split_first() else {
         return Err(WordFault::Usage);
     };
     match name.as_str() {
         "tiles" => tiles_of(alloc, words),
-        "check" => check_of(words),
+        "check" => check_of(alloc, words),
         _ => Err(WordFault::Usage),
     }
 }
 
-// What the words behind `tiles` ask for.
+// What `tiles` and the words behind it ask for.
 fn tiles_of(alloc: Global, words: &[String]) -> Result<Asked, WordFault>
-    ensures { Reads (tiles_asked (without_dashes (map string_bytes words.now))) result }
+    ensures { Reads (tiles_asked (without_dashes (drop 1 (map string_bytes words.now)))) result }
 {
-    if words.len() < 3 || words.len() > 4 {
+    let matches = matches_of(alloc, "tiles", words)?;
+    let Some(values) = matches.get_strs("values") else {
         return Err(WordFault::Usage);
+    };
+    match values {
+        [level, lo, hi] => line_of(alloc, level, lo, hi),
+        _ => Err(WordFault::Usage),
     }
-    match words {
-        [level, lo, hi] => line_of(alloc, level.as_str(), lo.as_str(), hi.as_str()),
-        [first, second, third, last] => {
-            if first.as_str() == "--" {
-                line_of(alloc, second.as_str(), third.as_str(), last.as_str())
-            } else if second.as_str() == "--" {
-                line_of(alloc, first.as_str(), third.as_str(), last.as_str())
-            } else if third.as_str() == "--" {
-                line_of(alloc, first.as_str(), second.as_str(), last.as_str())
-            } else if last.as_str() == "--" {
-                line_of(alloc, first.as_str(), second.as_str(), third.as_str())
-            } else {
-                Err(WordFault::Usage)
-            }
-        }
-        _ => unreachable!(),
+}
+
+// What `check` and the words behind it ask for.
+fn check_of(alloc: Global, words: &[String]) -> Result<Asked, WordFault>
+    ensures { Reads (check_asked (without_dashes (drop 1 (map string_bytes words.now)))) result }
+{
+    let matches = matches_of(alloc, "check", words)?;
+    match matches.get_strs("values") {
+        None | Some([]) => Ok(Asked::Check),
+        _ => Err(WordFault::Usage),
     }
 }
 
@@ -102,19 +105,41 @@ fn joined(alloc: Global, level: &str, lo: &str, hi: &str) -> Result<String, Allo
     Ok(line)
 }
 
-// What the words behind `check` ask for.
-fn check_of(words: &[String]) -> Result<Asked, WordFault>
-    ensures { Reads (check_asked (without_dashes (map string_bytes words.now))) result }
+// A command's name and the words behind it, as `clap` takes them. Words that it refuses begin with a hyphen, so that they
+// are neither numbers nor coordinates.
+fn matches_of<'a>(
+    alloc: Global,
+    name: &'a str,
+    words: &'a [String],
+) -> Result<ArgMatches<'a>, WordFault>
+    ensures taken { IfOk result (λ matches. values_of matches ≡ without_dashes (drop 1 (map string_bytes words.now))) }
+    ensures refused { result ≡ Err WordFault.Usage → AskNothing (without_dashes (drop 1 (map string_bytes words.now))) }
 {
-    match words {
-        [] => Ok(Asked::Check),
-        [only] => {
-            if only.as_str() == "--" {
-                Ok(Asked::Check)
-            } else {
-                Err(WordFault::Usage)
-            }
-        }
-        _ => Err(WordFault::Usage),
+    let _count = count_of(words);
+    let command = command_of(alloc, name)?;
+    match command.try_get_matches_from(words) {
+        Ok(matches) => Ok(matches),
+        Err(error) => match error.kind() {
+            ErrorKind::OutOfMemory => Err(WordFault::Memory),
+            _ => Err(WordFault::Usage),
+        },
     }
+}
+
+// The command of a name: any number of values, and neither help nor version.
+fn command_of<'a>(alloc: Global, name: &'a str) -> Result<Command<'a>, AllocError>
+    ensures { IfOk result (λ made. app_of made ≡ command name.now) }
+{
+    let values = Arg::new(alloc, "values").num_args(..);
+    let start = Command::new(alloc, name)
+        .disable_help_flag(true)
+        .disable_version_flag(true);
+    start.arg(values)
+}
+
+// How many words there are: fewer than 2^64, which a slice itself does not show.
+fn count_of(words: &[String]) -> usize
+    ensures { result ≡ length words.now }
+{
+    words.len()
 }
