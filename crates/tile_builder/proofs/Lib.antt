@@ -1,2 +1,3 @@
 pub mod Keys
 pub mod Parents
+pub mod Rows
