@@ -1,5 +1,5 @@
 -- Words without contents stand for the keys of their tiles: what rises, and where a tile is found.
-use Rattle.std.proofs.Common.{◌≡◌, ℕ, ◌+◌, ◌-◌, ◌<◌, ◌≤◌, true, List, length, get_or, sym, ap, subst, ◌∙◌, arith, lit<, inl, inr}
+use Rattle.std.proofs.Common.{zero, suc, add-one, ◌≡◌, ℕ, ◌+◌, ◌-◌, ◌<◌, ◌≤◌, true, List, length, get_or, sym, ap, subst, ◌∙◌, arith, lit<, inl, inr}
 use Rattle.std.specs.Prelude.{◌↔◌, false, slice_index, MatchBool}
 use Rattle.std.specs.Bool.{Decides}
 use Rattle.std.specs.List.{All, Contains}
@@ -30,7 +30,7 @@ pub tile_of_place : (scheme : Scheme) (ws : List ℕ) (i d : ℕ) (e : Tile) →
 tile_of_place scheme ws i d e h = get_or-map (word_tile scheme) ws i d e h
 
 -- the order of keys
-by_key : (scheme : Scheme) (v w : ℕ) → IsWord scheme v → IsWord scheme w
+pub by_key : (scheme : Scheme) (v w : ℕ) → IsWord scheme v → IsWord scheme w
     → (key scheme v < key scheme w) ↔ (is_key_below scheme (word_tile scheme v) (word_tile scheme w) ≡ true)
 by_key scheme v w one other =
     (words_are_ordered scheme (word_tile scheme v) (word_tile scheme w) (has_word scheme v one) (has_word scheme w other)).by_key 0 (lit< tt)
@@ -64,6 +64,15 @@ rise_more scheme ws n rise step i j low within =
       | inr (inl before) ↦ rise i j low before
       | inr (inr behind) ↦ absurd (omega arith)
     ]
+
+-- keys that rise from each place to the next rise
+pub rise_upto : (scheme : Scheme) (ws : List ℕ) (n : ℕ) → n ≤ length ws
+    → ((k : ℕ) → 0 < k → k < length ws → key scheme (slice_index ws (k - 1)) < key scheme (slice_index ws k)) → RiseBefore scheme ws n
+rise_upto scheme ws zero within step = λ i j low h. absurd (omega (arith, h))
+rise_upto scheme ws (suc zero) within step = λ i j low h. absurd (omega (arith, low, h))
+rise_upto scheme ws (suc (suc n)) within step =
+    subst (RiseBefore scheme ws) (add-one (suc n))
+    (rise_more scheme ws (suc n) (rise_upto scheme ws (suc n) (omega (arith, within)) step) (step (suc n) (omega arith) (omega (arith, within))))
 
 -- a tile is at the place of its key, and nowhere else
 pub found_at : (scheme : Scheme) (ws : List ℕ) (t : Tile) (i : ℕ) → HasWord scheme t → All (IsWord scheme) ws → i < length ws

@@ -62,6 +62,18 @@ impl Occupancy {
         })
     }
 
+    // The occupancy of words that are known to be whole.
+    pub(crate) fn of_whole(scheme: Scheme, levels: u32, words: Vec<Word>) -> Occupancy
+        requires { IsOccupancy scheme levels words.items }
+        ensures { result ≡ record { scheme = scheme; levels = levels; words = words.items } }
+    {
+        Occupancy {
+            scheme,
+            levels,
+            words,
+        }
+    }
+
     /// How the tiles are divided.
     pub fn scheme(&self) -> Scheme
         ensures { result ≡ self.now.scheme }

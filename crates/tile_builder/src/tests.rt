@@ -1,5 +1,5 @@
-// Worked lists of words.
-use crate::{Occupancy, OccupancyFault};
+// Worked lists of words, and generated ones.
+use crate::{Occupancy, OccupancyFault, generate};
 use availability::word_of;
 use std::test::Fail;
 use tile_coords::{Scheme, Tile, Word};
@@ -79,5 +79,26 @@ fn a_whole_octree(rt: HostRuntime) -> Result<(), Fail> {
         Ok(occupancy) => assert!(rt; occupancy.words().len() == 585),
         Err(_) => assert!(rt; false),
     }
+    Ok(())
+}
+
+#[test]
+fn generated(rt: HostRuntime) -> Result<(), Fail> {
+    let alloc = rt.alloc();
+    let quad = generate(alloc, Scheme::Quad, 3, 1, 2, 1)?;
+    let root = CONTENT;
+    let above = LEVEL + CONTENT + 2;
+    let last = 2 * LEVEL + CONTENT;
+    assert!(rt; quad.words() == [root, above, last + 8, last + 11].as_slice());
+    let oct = generate(alloc, Scheme::Oct, 2, 2, 1, 5)?;
+    assert!(rt; oct.words() == [3 * CONTENT, LEVEL + CONTENT + 7].as_slice());
+    assert!(rt;
+        generate(alloc, Scheme::Oct, 18, 8, 0, 0)?
+            .words()
+            .is_empty()
+    );
+    let many = generate(alloc, Scheme::Quad, 26, 8, 200, u32::MAX)?;
+    assert!(rt; many.words().len() > 200);
+    assert!(rt; many.words().len() < 200 * 26);
     Ok(())
 }
