@@ -4,3 +4,7 @@ pub mod Rows
 pub mod Lines
 pub mod Points
 pub mod Generated
+mod LayoutRows
+pub mod LayoutReads
+pub mod LayoutStated
+pub mod LayoutMade

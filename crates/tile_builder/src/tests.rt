@@ -1,13 +1,18 @@
-// Worked lists of words, and generated ones.
-use crate::{Occupancy, OccupancyFault, generate};
+// Worked lists of words, generated ones, and the text of a layout.
+use crate::{Occupancy, OccupancyFault, generate, layout_text};
 use availability::word_of;
 use std::test::Fail;
 use tile_coords::{Scheme, Tile, Word};
+use tileset_json::Layout;
+use uri_template::Template;
 
 // The first word of a level, and one of the first content.
 const LEVEL: Word = 1 << 59;
 
 const CONTENT: Word = 1 << 51;
+
+const TILESET: &str =
+    "{\"asset\":{\"version\":\"1.1\"},\"geometricError\":1,\"root\":{\"boundingVolume\":{\"box\":[0,0,0,1,0,0,0,1,0,0,0,1]},\"content\":{\"uri\":\"c0.{level}.{x}.{y}.glb\"},\"geometricError\":1,\"implicitTiling\":{\"availableLevels\":3,\"subdivisionScheme\":\"QUADTREE\",\"subtreeLevels\":2,\"subtrees\":{\"uri\":\"s.{level}.{x}.{y}.subtree\"}},\"refine\":\"ADD\"}}";
 
 #[test]
 fn first_faults(rt: HostRuntime) -> Result<(), Fail> {
@@ -100,5 +105,23 @@ fn generated(rt: HostRuntime) -> Result<(), Fail> {
     let many = generate(alloc, Scheme::Quad, 26, 8, 200, u32::MAX)?;
     assert!(rt; many.words().len() > 200);
     assert!(rt; many.words().len() < 200 * 26);
+    Ok(())
+}
+
+#[test]
+fn text_of_a_layout(rt: HostRuntime) -> Result<(), Fail> {
+    let alloc = rt.alloc();
+    let mut contents = Vec::new(alloc);
+    contents.push(Template::new(String::from_str(alloc, "c0.{level}.{x}.{y}.glb")?)?)?;
+    let layout = Layout {
+        scheme: Scheme::Quad,
+        subtree_levels: 2,
+        levels: 3,
+        subtree: Template::new(String::from_str(alloc, "s.{level}.{x}.{y}.subtree")?)?,
+        contents,
+    };
+    let mut out = Vec::new(alloc);
+    layout_text(alloc, &layout, &mut out)?;
+    assert!(rt; out.as_slice() == TILESET.as_bytes());
     Ok(())
 }
