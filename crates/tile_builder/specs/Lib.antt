@@ -1,5 +1,1 @@
-pub mod Occupied
-pub mod Faults
-pub mod Generated
-pub mod LayoutText
-pub mod LayoutMembers
+pub mod Puts

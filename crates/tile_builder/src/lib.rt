@@ -1,17 +1,8 @@
-//! Tilesets that are made: which tiles there are, as a list of words that is whole, lists that are generated, and the
-//! text of `tileset.json`.
+//! Making the files of a tileset from the tiles that are to be there.
 #![tactic(auto)]
 
-mod checks;
-mod generator;
-pub mod layout_laws;
-mod occupancy;
-mod search;
-mod tileset_text;
+mod builder;
 
-pub use generator::generate;
-pub use occupancy::{Occupancy, OccupancyFault};
-pub use tileset_text::layout_text;
-
-#[cfg(test)]
-mod tests;
+pub use builder::{BuildStop, Built, build};
+pub use tile_occupancy::{Occupancy, OccupancyFault, generate};
+pub use tileset_write::layout_text;

@@ -1,5 +1,0 @@
-use Rattle.tile_builder.proofs.LayoutStated.{layout_texts_read_back}
-use Rattle.tile_builder.proofs.layout_laws.a_layout_text_reads_back.Goals as goal
-
-pub returns : goal.returns
-returns c = layout_texts_read_back

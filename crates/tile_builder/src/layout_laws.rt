@@ -1,7 +1,0 @@
-// Laws of the texts of layouts (OGC 22-025r4, implicit tiling: implicit root tile, subtrees).
-ghost use Rattle.tile_builder.specs.LayoutText.{LayoutTextsReadBack};
-
-/// The text of a layout states the layout, without a fault.
-pub fn a_layout_text_reads_back()
-    ensures { LayoutTextsReadBack }
-{}

@@ -1,0 +1,6 @@
+pub mod Keys
+pub mod Parents
+pub mod Rows
+pub mod Lines
+pub mod Points
+pub mod Generated

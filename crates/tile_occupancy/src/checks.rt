@@ -1,0 +1,61 @@
+// The three conditions of an occupancy.
+ghost use Rattle.std.specs.Prelude.{◌≡◌, ◌<◌};
+ghost use Rattle.std.specs.Bool.{Decides};
+ghost use Rattle.std.specs.List.{All};
+ghost use Rattle.implicit_tiling.specs.Code.{IsWord};
+ghost use Rattle.tile_occupancy.specs.Occupied.{AreWords, IsWordBelow, KeysRise, HaveParents};
+
+use crate::search::{has_tile, key_of, word_tile};
+use availability::tile_of;
+use tile_coords::{Scheme, Word};
+
+// Whether each word is that of a tile of a level below `levels`.
+pub(crate) fn are_words(scheme: Scheme, levels: u32, words: &[Word]) -> bool
+    ensures { Decides result (AreWords scheme levels words.now) }
+{
+    for &word in words {
+        if !is_word_below(scheme, levels, word) {
+            return false;
+        }
+    }
+    true
+}
+
+// The same of one word.
+fn is_word_below(scheme: Scheme, levels: u32, word: Word) -> bool
+    ensures { Decides result (IsWordBelow scheme levels word) }
+{
+    match tile_of(scheme, word) {
+        Some(found) => found.tile.level < levels,
+        None => false,
+    }
+}
+
+// Whether the keys of the words' tiles strictly rise.
+pub(crate) fn keys_rise(scheme: Scheme, words: &[Word]) -> bool
+    requires { All (IsWord scheme) words.now }
+    ensures { Decides result (KeysRise scheme words.now) }
+{
+    for next in 1..words.len() {
+        if key_of(scheme, words[next - 1]) >= key_of(scheme, words[next]) {
+            return false;
+        }
+    }
+    true
+}
+
+// Whether each tile but the root has its parent among the tiles.
+pub(crate) fn have_parents(scheme: Scheme, words: &[Word]) -> bool
+    requires words { All (IsWord scheme) words.now }
+    requires rise { KeysRise scheme words.now }
+    ensures { Decides result (HaveParents scheme words.now) }
+{
+    for &word in words {
+        if let Some(parent) = word_tile(scheme, word).parent() {
+            if !has_tile(scheme, words, &parent) {
+                return false;
+            }
+        }
+    }
+    true
+}

@@ -1,0 +1,7 @@
+//! Tilesets that are generated for tests and times: from a recipe of a few numbers their files are put into a keeper, or made
+//! in memory and surveyed.
+#![tactic(auto)]
+
+mod recipe;
+
+pub use recipe::Recipe;

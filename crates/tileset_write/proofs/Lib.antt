@@ -1,0 +1,4 @@
+mod LayoutRows
+pub mod LayoutReads
+pub mod LayoutStated
+pub mod LayoutMade

@@ -1,0 +1,12 @@
+use Rattle.std.proofs.Common.{◌∙◌, ap}
+use Rattle.serde_json.specs.Written.{has_float, compact_text}
+use Rattle.tileset_write.specs.LayoutText.{layout_text}
+use Rattle.tileset_write.proofs.LayoutMade.{no_float, text_added}
+use Rattle.tileset_write.proofs.tileset_text.layout_text.Goals as goal
+
+pub returns-clause-ok : goal.returns-clause-ok
+returns-clause-ok c =
+    let layout = c.args.layout.now in
+    let value = c.in_ok-layout_value.ensures in
+    text_added c.extend_from_slice.result c.args.out.now.items c.deref.result.now c.extend_from_slice.new.self.items (layout_text layout) c.extend_from_slice.ensures.items
+    (c.deref.ensures.value ∙ c.in_ok-text.ensures.text (ap has_float value ∙ no_float layout) ∙ ap compact_text value)

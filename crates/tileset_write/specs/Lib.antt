@@ -1,0 +1,2 @@
+pub mod LayoutText
+pub mod LayoutMembers
