@@ -1,5 +1,5 @@
--- What is written back over given files, and how the program ends (this project's own).
-use Rattle.std.specs.Prelude.{ℕ, ◌≡◌, ◌⊎◌, nat_lt, List, [], ◌∷◌, length, codes, Option, Some, None, Result, Ok, Err, if◌then◌else◌}
+-- What is written back over given files, how the program ends, and what it leaves of files that are kept (this project's own).
+use Rattle.std.specs.Prelude.{ℕ, ◌≡◌, ◌⊎◌, nat_lt, Bool, true, false, List, [], ◌∷◌, length, codes, Option, Some, None, option_map, Result, Ok, Err, if◌then◌else◌}
 use Rattle.std.specs.Io.KnownBytes.{Appends, Keeps}
 use Rattle.implicit_tiling.specs.Limits.{most_file_bytes}
 use Rattle.implicit_tiling.specs.Files.{Files, file}
@@ -15,7 +15,12 @@ use Rattle.implicit_tileset.specs.Scene.{scene_of}
 use Rattle.scene_ports.specs.Output.{GivesFront}
 use Rattle.tile_coords.specs.declared.walk_end.WalkEnd.{WalkEnd}
 use Rattle.tile_coords.specs.declared.walk_end.WalkEnd.TheVariants.{Partial, Complete, TooMany, Fault}
-use Rattle.commands.specs.Words.{Wish, tiles, check}
+use Rattle.request_text.specs.Made.{made_text, survey_text}
+use Rattle.build_laws.specs.Holds.{HoldsTiles}
+use Rattle.tile_builder.specs.Puts.{ArePut, IsCut, IsCutAt, IfTold}
+use Rattle.tileset_make.specs.declared.recipe.Recipe.{Recipe}
+use Rattle.tileset_make.specs.Recipes.{recipe_layout, recipe_words, recipe_files, survey_of}
+use Rattle.commands.specs.Words.{Wish, tiles, check, make, survey}
 use Rattle.commands.specs.declared.status.Status.{Status}
 use Rattle.commands.specs.declared.status.Status.TheVariants.{Done, Faulted, Usage, BadLayout, ReadFault, WriteFault, InputFault, Memory, InputLong}
 
@@ -53,9 +58,12 @@ found_status (found ∷ more) = Faulted
 abbrev pub check_reply : Scene → Reply
 check_reply s = record { status = found_status (checked s).faults; text = checked_text s.layout.scheme (checked s) }
 
-abbrev pub reply : Scene → Wish → Reply
-reply s (tiles line) = line_reply s line
-reply s check = check_reply s
+-- the reply to a recipe of which the files were put, and to one that is surveyed
+abbrev pub make_reply : Recipe → Reply
+make_reply r = record { status = Done; text = made_text (length (recipe_files r)) (length (recipe_words r)) }
+
+abbrev pub survey_reply : Recipe → Reply
+survey_reply r = record { status = Done; text = survey_text (survey_of r).files (survey_of r).tiles (survey_of r).listed (survey_of r).contents (survey_of r).more }
 
 -- the layout of `tileset.json`, or the status of its first fault: 1 there is no such file, 2 it is too long
 abbrev pub layout_or_status : Result Layout ℕ → Result Layout Status
@@ -69,14 +77,64 @@ layout_from (Some bytes) = if nat_lt most_file_bytes (length bytes) then Err (Ba
 abbrev pub layout_in : Files → Result Layout Status
 layout_in files = layout_from (file (codes "tileset.json") files)
 
-abbrev pub reply_over : Files → Wish → Result Layout Status → Result Reply Status
-reply_over files wish (Ok layout) = Ok (reply (scene_of files layout) wish)
-reply_over files wish (Err status) = Err status
+abbrev pub reply_over : (Scene → Reply) → Files → Result Layout Status → Result Reply Status
+reply_over of files (Ok layout) = Ok (of (scene_of files layout))
+reply_over of files (Err status) = Err status
 
--- the reply that a wish gets over the files, or the status that comes before anything is given
-abbrev pub reply_wanted : Files → Option Wish → Result Reply Status
-reply_wanted files None = Err Usage
-reply_wanted files (Some wish) = reply_over files wish (layout_in files)
+-- the reply over the layout of some files, or the status that comes before anything is given; where the files are told
+abbrev pub reply_in : (Scene → Reply) → Option Files → Option (Result Reply Status)
+reply_in of told = option_map (λ files. reply_over of files (layout_in files)) told
+
+-- The reply that a wish gets, or the status that comes before anything is given. For a wish that no file is read for it is
+-- known whatever the source tells, for others where the source tells its files.
+abbrev pub reply_wanted : Option Files → Option Wish → Option (Result Reply Status)
+reply_wanted told None = Some (Err Usage)
+reply_wanted told (Some (tiles line)) = reply_in (λ s. line_reply s line) told
+reply_wanted told (Some check) = reply_in check_reply told
+reply_wanted told (Some (make recipe)) = Some (Ok (make_reply recipe))
+reply_wanted told (Some (survey recipe)) = Some (Ok (survey_reply recipe))
+
+-- the wish is of a command that puts files, and of one that reads no file
+abbrev pub puts_files : Option Wish → Bool
+puts_files None = false
+puts_files (Some (tiles line)) = false
+puts_files (Some check) = false
+puts_files (Some (make recipe)) = true
+puts_files (Some (survey recipe)) = false
+
+abbrev pub reads_files : Option Wish → Bool
+reads_files None = true
+reads_files (Some (tiles line)) = true
+reads_files (Some check) = true
+reads_files (Some (make recipe)) = false
+reads_files (Some (survey recipe)) = false
+
+-- what stands among the files that were kept once a recipe was made
+pub record IsMade (r : Recipe) (before now : Files) : Type 0 where
+  pub put : ArePut (recipe_files r) before now
+  pub layout : layout_in now ≡ Ok (recipe_layout r)
+  pub holds : HoldsTiles (scene_of now (recipe_layout r)) (recipe_words r)
+
+-- What a call with a status leaves of the files that were kept: the whole tileset; or the first of its files, and of no later one
+-- is anything known but that at which the keeper failed.
+abbrev pub Leaves : Recipe → Files → Files → Status → Type 0
+Leaves r before now Done = IsMade r before now
+Leaves r before now WriteFault = IsCut (recipe_files r) before now ⊎ IsCutAt (recipe_files r) before now
+Leaves r before now Memory = IsCut (recipe_files r) before now
+Leaves r before now Faulted = ⊥
+Leaves r before now Usage = ⊥
+Leaves r before now (BadLayout number) = ⊥
+Leaves r before now ReadFault = ⊥
+Leaves r before now InputFault = ⊥
+Leaves r before now InputLong = ⊥
+
+-- of a wish to make a tileset, where the keeper tells its files
+abbrev pub LeavesWanted : Option Wish → Option Files → Option Files → Status → Type 0
+LeavesWanted None before now status = Unit {0}
+LeavesWanted (Some (tiles line)) before now status = Unit {0}
+LeavesWanted (Some check) before now status = Unit {0}
+LeavesWanted (Some (make recipe)) before now status = IfTold before now (λ b n. Leaves recipe b n status)
+LeavesWanted (Some (survey recipe)) before now status = Unit {0}
 
 -- the reply was given whole, and nothing else, and the program ended with its status; or nothing was given
 abbrev pub IsGiven : Result Reply Status → Option (List ℕ) → Option (List ℕ) → Status → Type 0
@@ -112,6 +170,18 @@ IsBeforeWriting WriteFault = ⊥
 IsBeforeWriting Done = ⊥
 IsBeforeWriting Faulted = ⊥
 IsBeforeWriting Usage = ⊥
+
+-- the statuses of a call that makes a tileset or surveys one
+abbrev pub IsOfMaking : Status → Type 0
+IsOfMaking Done = Unit {0}
+IsOfMaking WriteFault = Unit {0}
+IsOfMaking Memory = Unit {0}
+IsOfMaking Faulted = ⊥
+IsOfMaking Usage = ⊥
+IsOfMaking (BadLayout number) = ⊥
+IsOfMaking ReadFault = ⊥
+IsOfMaking InputFault = ⊥
+IsOfMaking InputLong = ⊥
 
 -- words that ask for nothing are a usage fault, but where there is no memory to read them
 abbrev pub IsRefused : Status → Type 0

@@ -1,12 +1,13 @@
-// Answering a request line.
+// The command `tiles`: answering a request line.
 ghost use Rattle.std.specs.Prelude.{◌≡◌, ◌≢◌, Ok, IfSome};
 ghost use Rattle.std.specs.Io.KnownBytes.{Keeps};
 ghost use Rattle.implicit_tiling.specs.Text.{refused_text};
 ghost use Rattle.implicit_tileset.specs.Scene.{scene_of};
 ghost use Rattle.scene_ports.specs.Counts.{Rose};
-ghost use Rattle.commands.specs.Replies.{Replies, IsBeforeWriting, line_reply, plan_reply, walk_status};
+ghost use Rattle.commands.specs.Replies.{Replies, IsBeforeWriting, reply_in, line_reply, plan_reply, walk_status};
 ghost use Rattle.tile_walk.specs.Plans.{FitsLayout};
 
+use crate::layout::fetch_layout;
 use crate::status::Status;
 use framed_walk::framed;
 use request_text::{parse_line, write_answer, write_refusal};
@@ -19,8 +20,28 @@ use tileset_json::Layout;
 /// The frames that hold decoded subtrees while an answer is walked.
 const FRAMES: usize = 4;
 
-/// Gives the answer to a request line, or its refusal.
-pub(crate) fn answer_line<S: FileSource, O: Outlet>(
+/// Gives the answer to a request line over the layout of the files, or its refusal.
+pub(crate) fn answer_tiles<S: FileSource, O: Outlet>(
+    alloc: Global,
+    line: &str,
+    files: &mut S,
+    out: &mut O,
+) -> Status
+    ensures replies { IfSome (reply_in (λ s. line_reply s line.now) (S.told files.old)) (λ wanted. Replies wanted (O.given out.old) (O.given out.new) result) }
+    ensures nothing { IsBeforeWriting result → Keeps (O.given out.old) (O.given out.new) }
+    ensures read_fault { result ≡ Status.ReadFault → Rose (S.faults files.old) (S.faults files.new) }
+    ensures write_fault { result ≡ Status.WriteFault → Rose (O.faults out.old) (O.faults out.new) }
+    ensures left_aside { O.left_aside out.new ≡ O.left_aside out.old }
+    ensures taken_aside { O.taken_aside out.new ≡ O.taken_aside out.old }
+{
+    match fetch_layout(alloc, files) {
+        Ok(layout) => answer_line(alloc, &layout, line, files, out),
+        Err(status) => status,
+    }
+}
+
+// Gives the answer to a request line, or its refusal.
+fn answer_line<S: FileSource, O: Outlet>(
     alloc: Global,
     layout: &Layout,
     line: &str,

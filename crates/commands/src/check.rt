@@ -1,10 +1,11 @@
-// Checking all subtree files.
+// The command `check`: the faults of all subtree files.
 ghost use Rattle.std.specs.Prelude.{◌≡◌, Ok, IfSome, if◌then◌else◌};
 ghost use Rattle.std.specs.Io.KnownBytes.{Keeps};
 ghost use Rattle.implicit_tileset.specs.Scene.{scene_of};
 ghost use Rattle.scene_ports.specs.Counts.{Rose};
-ghost use Rattle.commands.specs.Replies.{Replies, IsBeforeWriting, check_reply};
+ghost use Rattle.commands.specs.Replies.{Replies, IsBeforeWriting, reply_in, check_reply};
 
+use crate::layout::fetch_layout;
 use crate::status::Status;
 use request_text::write_check;
 use scene_ports::{FileSource, GiveFault, Outlet};
@@ -12,8 +13,27 @@ use std::alloc::Global;
 use tile_walk::{WalkStop, check_all};
 use tileset_json::Layout;
 
-/// Gives the faults of all subtree files that are reached.
+/// Gives the faults of all subtree files that are reached from the layout of the files.
 pub(crate) fn answer_check<S: FileSource, O: Outlet>(
+    alloc: Global,
+    files: &mut S,
+    out: &mut O,
+) -> Status
+    ensures replies { IfSome (reply_in check_reply (S.told files.old)) (λ wanted. Replies wanted (O.given out.old) (O.given out.new) result) }
+    ensures nothing { IsBeforeWriting result → Keeps (O.given out.old) (O.given out.new) }
+    ensures read_fault { result ≡ Status.ReadFault → Rose (S.faults files.old) (S.faults files.new) }
+    ensures write_fault { result ≡ Status.WriteFault → Rose (O.faults out.old) (O.faults out.new) }
+    ensures left_aside { O.left_aside out.new ≡ O.left_aside out.old }
+    ensures taken_aside { O.taken_aside out.new ≡ O.taken_aside out.old }
+{
+    match fetch_layout(alloc, files) {
+        Ok(layout) => check_layout(alloc, &layout, files, out),
+        Err(status) => status,
+    }
+}
+
+// The same over a layout.
+fn check_layout<S: FileSource, O: Outlet>(
     alloc: Global,
     layout: &Layout,
     files: &mut S,
