@@ -2,8 +2,8 @@
 // real world do.
 use crate::{
     FULL, Fetch, FileKeeper, FileSource, Folder, Give, GiveFault, Inlet, MemoryFiles, MemoryKeeper,
-    MemoryLink, Outlet, Put, ReadInlet, SureFiles, Take, WriteOutlet, give_all, give_rest,
-    give_when_full,
+    MemoryLink, Outlet, Put, ReadInlet, SureFiles, SureKeeper, Take, WriteOutlet, give_all,
+    give_rest, give_when_full,
 };
 use std::alloc::{AllocError, Global};
 use std::fs;
@@ -83,6 +83,23 @@ fn a_keeper_in_memory(rt: HostRuntime) -> Result<(), Fail> {
     assert!(rt; files.len() == 2);
     assert!(rt; files[0].0.as_str() == "a" && files[0].1.as_slice() == b"4".as_slice());
     assert!(rt; files[1].0.as_str() == "b" && files[1].1.as_slice() == b"2".as_slice());
+    Ok(())
+}
+
+#[test]
+fn a_keeper_that_never_fails(rt: HostRuntime) -> Result<(), Fail> {
+    let alloc = rt.alloc();
+    let mut keeper = SureKeeper::new(alloc);
+    let rows: [(&str, &[u8]); 4] = [("b", b"1"), ("a", b"2"), ("c", b""), ("b", b"3")];
+    for (name, bytes) in rows {
+        assert!(rt; keeper.put(name, bytes) == Put::Kept);
+    }
+    let wanted: [(&str, &[u8]); 3] = [("b", b"3"), ("a", b"2"), ("c", b"")];
+    let files = keeper.into_files();
+    assert!(rt; files.len() == wanted.len());
+    for (at, (name, bytes)) in wanted.into_iter().enumerate() {
+        assert!(rt; files[at].0.as_str() == name && files[at].1.as_slice() == bytes);
+    }
     Ok(())
 }
 
