@@ -2,8 +2,8 @@
 // real world do.
 use crate::{
     FULL, Fetch, FileKeeper, FileSource, Folder, Give, GiveFault, Inlet, MemoryFiles, MemoryKeeper,
-    MemoryLink, Outlet, Put, ReadInlet, SureFiles, Take, WriteOutlet, give_all, give_rest,
-    give_when_full,
+    MemoryLink, Outlet, Put, ReadInlet, SureFiles, SureKeeper, Take, WriteOutlet, give_all,
+    give_rest, give_when_full,
 };
 use std::alloc::{AllocError, Global};
 use std::fs;
@@ -48,16 +48,25 @@ fn files_in_memory(rt: HostRuntime) -> Result<(), Fail> {
 #[test]
 fn files_that_never_fail(rt: HostRuntime) -> Result<(), Fail> {
     let alloc = rt.alloc();
-    let twice = vec![in alloc; pair(alloc, "a", b"1")?, pair(alloc, "a", b"2")?]?;
+    let twice = vec![in alloc;
+        pair(alloc, "a", b"1")?,
+        pair(alloc, "b", b"")?,
+        pair(alloc, "a", b"2")?,
+    ]?;
     assert!(rt; SureFiles::new(twice).is_none());
-    let files = vec![in alloc; pair(alloc, "a", b"xyz")?, pair(alloc, "b", b"")?]?;
+    let files = vec![in alloc;
+        pair(alloc, "b", b"")?,
+        pair(alloc, "ab", b"12")?,
+        pair(alloc, "a", b"xyz")?,
+    ]?;
     let mut source = SureFiles::new(files).expect(&rt, "distinct names");
     let mut out = vec![in alloc; 7]?;
-    let rows: [(&str, usize, Fetch, usize); 4] = [
+    let rows: [(&str, usize, Fetch, usize); 5] = [
         ("a", 3, Fetch::Whole, 3),
         ("a", 2, Fetch::TooLong, 0),
         ("c", 2, Fetch::Missing, 0),
         ("b", 0, Fetch::Whole, 0),
+        ("ab", 3, Fetch::Whole, 2),
     ];
     for (name, limit, wanted, length) in rows {
         assert!(rt; source.fetch(name, limit, &mut out) == wanted);
@@ -83,6 +92,23 @@ fn a_keeper_in_memory(rt: HostRuntime) -> Result<(), Fail> {
     assert!(rt; files.len() == 2);
     assert!(rt; files[0].0.as_str() == "a" && files[0].1.as_slice() == b"4".as_slice());
     assert!(rt; files[1].0.as_str() == "b" && files[1].1.as_slice() == b"2".as_slice());
+    Ok(())
+}
+
+#[test]
+fn a_keeper_that_never_fails(rt: HostRuntime) -> Result<(), Fail> {
+    let alloc = rt.alloc();
+    let mut keeper = SureKeeper::new(alloc);
+    let rows: [(&str, &[u8]); 4] = [("b", b"1"), ("a", b"2"), ("c", b""), ("b", b"3")];
+    for (name, bytes) in rows {
+        assert!(rt; keeper.put(name, bytes) == Put::Kept);
+    }
+    let wanted: [(&str, &[u8]); 3] = [("b", b"3"), ("a", b"2"), ("c", b"")];
+    let files = keeper.into_files();
+    assert!(rt; files.len() == wanted.len());
+    for (at, (name, bytes)) in wanted.into_iter().enumerate() {
+        assert!(rt; files[at].0.as_str() == name && files[at].1.as_slice() == bytes);
+    }
     Ok(())
 }
 
