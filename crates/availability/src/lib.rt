@@ -7,7 +7,7 @@ mod rules;
 mod subtree;
 mod word;
 
-pub use nodes::{axes, nodes_above, nodes_at};
+pub use nodes::{nodes_above, nodes_at};
 pub use subtree::{RuleFault, Subtree};
 pub use word::{WordTile, index_of, tile_at, tile_of, word_of};
 

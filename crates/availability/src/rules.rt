@@ -6,7 +6,7 @@ ghost use Rattle.implicit_tiling.specs.Availability.{nodes_above as nodes_above_
 ghost use Rattle.implicit_tiling.specs.Subtree.{bit_at, mask_of_bits};
 ghost use Rattle.availability.specs.Rules.{HasOrphanAt};
 
-use crate::nodes::{axes, nodes_above, nodes_at};
+use crate::nodes::{nodes_above, nodes_at};
 use bitstream::Bits;
 use tile_coords::Scheme;
 
@@ -34,7 +34,7 @@ pub(crate) fn has_orphan_at(scheme: Scheme, tiles: &Bits, local: u32) -> bool
     let parents = nodes_above(scheme, local - 1);
     let first = nodes_above(scheme, local);
     let end = first + nodes_at(scheme, local);
-    let shift = axes(scheme);
+    let shift = scheme.axes();
     let mut from = first;
     while let Some(place) = tiles.next_one(from, end) {
         let parent = (place - first) >> shift;

@@ -1,10 +1,10 @@
 // The words of tiles.
 ghost use Rattle.std.specs.Prelude.{◌≡◌, ◌^◌, ◌<◌, ◌↔◌, IfSome, IsSome};
-ghost use Rattle.implicit_tiling.specs.Limits.{most_levels as most_levels_of};
+ghost use Rattle.implicit_tiling.specs.Limits.{most_levels};
 ghost use Rattle.implicit_tiling.specs.Tile.{IsTile, branching, index, tile_at as tile_at_of};
 ghost use Rattle.implicit_tiling.specs.Code.{word as word_for, word_tile, word_mask, IsWord};
 
-use crate::nodes::{most_levels, nodes_at};
+use crate::nodes::nodes_at;
 use morton::{coords2, coords3, index2, index3};
 use tile_coords::{Scheme, Tile, Word};
 
@@ -25,7 +25,7 @@ pub struct WordTile {
 /// The word of a tile and a mask of its contents. Words of one mask are ordered as the keys of their tiles.
 #[inline]
 pub fn word_of(scheme: Scheme, tile: &Tile, mask: u8) -> Word
-    requires within { tile.now.level < most_levels_of scheme }
+    requires within { tile.now.level < most_levels scheme }
     requires tile { IsTile scheme tile.now }
     ensures { result ≡ word_for scheme tile.now mask }
 {
@@ -40,12 +40,12 @@ pub fn tile_of(scheme: Scheme, word: Word) -> Option<WordTile>
     ensures tile { IfSome result (λ t. t.tile ≡ word_tile scheme word) }
     ensures mask { IfSome result (λ t. t.mask ≡ word_mask word) }
     ensures is_tile { IfSome result (λ t. IsTile scheme t.tile) }
-    ensures within { IfSome result (λ t. t.tile.level < most_levels_of scheme) }
+    ensures within { IfSome result (λ t. t.tile.level < most_levels scheme) }
 {
     let level = (word >> LEVEL_PLACE) as u32;
     let mask = (word >> MASK_PLACE & MASK_BITS) as u8;
     let index = word & ((1 << MASK_PLACE) - 1);
-    if level >= most_levels(scheme) || index >= nodes_at(scheme, level) {
+    if level >= scheme.most_levels() || index >= nodes_at(scheme, level) {
         return None;
     }
     Some(WordTile {
@@ -57,7 +57,7 @@ pub fn tile_of(scheme: Scheme, word: Word) -> Option<WordTile>
 /// The Morton index of a tile within its level (OGC 22-025r4, implicit tiling: Morton index).
 #[inline]
 pub fn index_of(scheme: Scheme, tile: &Tile) -> u64
-    requires within { tile.now.level < most_levels_of scheme }
+    requires within { tile.now.level < most_levels scheme }
     requires tile { IsTile scheme tile.now }
     ensures { result ≡ index scheme tile.now }
 {
@@ -70,7 +70,7 @@ pub fn index_of(scheme: Scheme, tile: &Tile) -> u64
 /// The tile of a level and a Morton index within it: the inverse of `index_of`.
 #[inline]
 pub fn tile_at(scheme: Scheme, level: u32, index: u64) -> Tile
-    requires within { level < most_levels_of scheme }
+    requires within { level < most_levels scheme }
     requires index { index < branching scheme ^ level }
     ensures { result ≡ tile_at_of scheme level index }
 {

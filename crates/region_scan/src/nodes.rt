@@ -4,7 +4,7 @@ ghost use Rattle.implicit_tiling.specs.Tile.{branching};
 ghost use Rattle.implicit_tiling.specs.Nodes.{node_at as node_at_of, node_word, child_word, is_tile_in, is_child_in};
 ghost use Rattle.region_scan.specs.Found.{found, first_index, is_looked_at as is_looked_at_of};
 
-use availability::{Subtree, axes, index_of, tile_at, word_of};
+use availability::{Subtree, index_of, tile_at, word_of};
 use tile_coords::{Region, Tile, Word};
 
 /// Whether the nodes of a local level are below the levels in all, and not below the region's level: where they aren't,
@@ -24,7 +24,7 @@ pub(crate) fn first_at(subtree: &Subtree, local: u32) -> u64
     requires { subtree.now.root.level + local < subtree.now.cut }
     ensures { result ≡ first_index subtree.now local }
 {
-    index_of(subtree.scheme, &subtree.root) << (axes(subtree.scheme) * local)
+    index_of(subtree.scheme, &subtree.root) << (subtree.scheme.axes() * local)
 }
 
 /// The word of a node, where the node is there and in the region. `first` is the index of its level's first node.
@@ -61,7 +61,7 @@ pub(crate) fn child_in(subtree: &Subtree, first: u64, region: &Region, index: u6
     requires index { index < branching subtree.now.scheme ^ subtree.now.levels }
     ensures { result ≡ found (is_child_in subtree.now region.now index) (child_word subtree.now index) }
 {
-    let parent = index >> axes(subtree.scheme);
+    let parent = index >> subtree.scheme.axes();
     if !subtree.child_at(index) || !subtree.tile_at(subtree.levels - 1, parent) {
         return None;
     }

@@ -114,10 +114,7 @@ fn point(scheme: Scheme, levels: u32, number: u32, k: u32) -> Tile
         level,
         x: spread(level, start + X_STEP * step),
         y: spread(level, 3 * start + Y_STEP * step),
-        z: match scheme {
-            Scheme::Quad => 0,
-            Scheme::Oct => spread(level, 7 * start + Z_STEP * step),
-        },
+        z: scheme.depth(spread(level, 7 * start + Z_STEP * step)),
     }
 }
 

@@ -5,7 +5,7 @@ ghost use Rattle.scene_ports.specs.Counts.{Rose, one_more};
 ghost use Rattle.tile_walk.specs.Outcomes.{outcome_seen, IsOutcomeAt};
 ghost use Rattle.tile_walk.specs.Roots.{IsRootTile};
 
-use availability::{Subtree, axes};
+use availability::Subtree;
 use scene_ports::{Fetch, FileSource};
 use std::alloc::{AllocError, Global};
 use subtree_file::{DecodeFault, decode};
@@ -71,7 +71,7 @@ pub fn read_subtree<S: FileSource>(
     let coordinates = [root.x, root.y, root.z];
     layout
         .subtree
-        .fill(axes(layout.scheme), root.level, coordinates, &mut name)?;
+        .fill(layout.scheme.axes(), root.level, coordinates, &mut name)?;
     let mut bytes = Vec::new(alloc);
     match files.fetch(name.as_str(), MOST_BYTES, &mut bytes) {
         Fetch::Whole => {}

@@ -2,7 +2,6 @@
 ghost use Rattle.std.specs.Prelude.{◌≡◌, ◌+◌, ◌-◌, ◌*◌, ◌≤◌, ◌++◌, ◌∷◌, [], map, take, length, false, IfOk, IfErr, IfSome, Err};
 ghost use Rattle.std.specs.List.{All, flat_map};
 ghost use Rattle.implicit_tiling.specs.Checked.{most_roots, checked};
-ghost use Rattle.implicit_tiling.specs.Tile.{depth_of};
 ghost use Rattle.implicit_tiling.specs.Subtree.{IsSubtree};
 ghost use Rattle.implicit_tiling.specs.Nodes.{child_words};
 ghost use Rattle.implicit_tiling.specs.Code.{word_level, word_tile};
@@ -20,7 +19,7 @@ use availability::Subtree;
 use region_scan::child_roots;
 use scene_ports::FileSource;
 use std::alloc::{AllocError, Global};
-use tile_coords::{CheckEnd, FoundFault, Region, Scheme, Word};
+use tile_coords::{CheckEnd, FoundFault, Region, Word};
 use tileset_json::Layout;
 
 // The most roots that are looked at (this project's own).
@@ -56,21 +55,11 @@ fn whole_region(layout: &Layout) -> Region
 {
     let level = layout.levels - 1;
     let last = (1u32 << level) - 1;
-    let hi = [last, last, depth(layout.scheme, last)];
+    let hi = [last, last, layout.scheme.depth(last)];
     Region {
         level,
         lo: [0, 0, 0],
         hi,
-    }
-}
-
-// The third coordinate, as far as the scheme has one.
-fn depth(scheme: Scheme, z: u32) -> u32
-    ensures { result ≡ depth_of scheme z }
-{
-    match scheme {
-        Scheme::Quad => 0,
-        Scheme::Oct => z,
     }
 }
 

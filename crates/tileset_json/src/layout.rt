@@ -3,7 +3,7 @@ ghost use Rattle.std.specs.Prelude.{◌≡◌, codes, option_and_then, IfOk};
 ghost use Rattle.serde_json.specs.Find.{get};
 ghost use Rattle.serde_json.specs.View.{view};
 ghost use Rattle.implicit_tileset.specs.Json.{number_at as number_in, text_at as text_in};
-ghost use Rattle.implicit_tileset.specs.Tileset.{layout_of, layout_of_value, template_of, scheme_named, from_one_to, most_levels as levels_limit, most_subtree_levels as subtree_levels_limit};
+ghost use Rattle.implicit_tileset.specs.Tileset.{layout_of, layout_of_value, template_of, scheme_named, from_one_to};
 ghost use Rattle.tileset_json.specs.Reading.{Answers};
 
 use crate::contents::{read_contents, read_template};
@@ -43,26 +43,6 @@ impl Model for Layout {
     ghost invariant = { λ l. IsWithinLimits (record { scheme = l.scheme; subtree_levels = l.subtree_levels; levels = l.levels; subtree = l.subtree; contents = l.contents.items }) };
 }
 
-/// The most levels of a scheme.
-pub fn most_levels(scheme: Scheme) -> u32
-    ensures { result ≡ levels_limit scheme }
-{
-    match scheme {
-        Scheme::Quad => 26,
-        Scheme::Oct => 18,
-    }
-}
-
-/// The most levels of a subtree of a scheme.
-pub fn most_subtree_levels(scheme: Scheme) -> u32
-    ensures { result ≡ subtree_levels_limit scheme }
-{
-    match scheme {
-        Scheme::Quad => 10,
-        Scheme::Oct => 7,
-    }
-}
-
 impl Layout {
     /// The layout that the bytes of `tileset.json` state. `Number` has the first fault of the table that holds,
     /// from 3 on. A member of one name that stands twice counts as `serde_json` keeps it, so the last does.
@@ -84,9 +64,9 @@ fn read_layout(alloc: Global, value: &Value) -> Result<Layout, LayoutFault>
     let tile = object_at(value, "root").ok_or(TilesetFault::NotObject)?;
     let implicit = object_at(tile, "implicitTiling").ok_or(TilesetFault::NoImplicit)?;
     let scheme = read_scheme(implicit).ok_or(TilesetFault::BadScheme)?;
-    let subtree_levels = count_at(implicit, "subtreeLevels", most_subtree_levels(scheme));
+    let subtree_levels = count_at(implicit, "subtreeLevels", scheme.most_subtree_levels());
     let subtree_levels = subtree_levels.ok_or(TilesetFault::BadSubtreeLevels)?;
-    let levels = count_at(implicit, "availableLevels", most_levels(scheme));
+    let levels = count_at(implicit, "availableLevels", scheme.most_levels());
     let levels = levels.ok_or(TilesetFault::BadAvailableLevels)?;
     let subtree = read_subtree(alloc, implicit)?.ok_or(TilesetFault::BadSubtreeTemplate)?;
     if has_member(tile, "content") && has_member(tile, "contents") {

@@ -1,6 +1,6 @@
 // What no clause says: with ample memory each row of the table is met. A member that stands twice counts as
 // `serde_json` keeps it, the last one, so each row states what it has besides this tileset.
-use crate::{Layout, LayoutFault, MOST_CONTENTS, TilesetFault, most_levels, most_subtree_levels};
+use crate::{Layout, LayoutFault, MOST_CONTENTS, TilesetFault};
 use std::alloc::{AllocError, Global};
 use std::test::Fail;
 use tile_coords::Scheme;
@@ -133,8 +133,8 @@ fn layout_of_its_fields(rt: HostRuntime) -> Result<(), Fail> {
     let alloc = rt.alloc();
     let layout = Layout {
         scheme: Scheme::Oct,
-        subtree_levels: most_subtree_levels(Scheme::Oct),
-        levels: most_levels(Scheme::Oct),
+        subtree_levels: Scheme::Oct.most_subtree_levels(),
+        levels: Scheme::Oct.most_levels(),
         subtree: Template::new(String::from_str(alloc, "{z}.subtree")?)?,
         contents: Vec::new(alloc),
     };
