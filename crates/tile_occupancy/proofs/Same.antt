@@ -1,5 +1,5 @@
 -- The test of two tiles.
-use Rattle.std.proofs.Common.{◌≡◌, true, ap, ◌∙◌}
+use Rattle.std.proofs.Common.{◌≡◌, ap}
 use Rattle.std.specs.Prelude.{◌&&◌, ◌==◌}
 use Rattle.std.specs.Bool.{Decides}
 use Rattle.std.proofs.lemmas.Bool.{and_parts, and_from, eqb-true, eq-eqb}

@@ -22,7 +22,7 @@ const Z_STEP: u64 = 20_011;
 /// Content c stands on each tile whose level is a multiple of c + 1.
 ///
 /// The scheme's limit holds for `levels`, from 1 on, and there are at most 8 contents. An error is want of memory: the
-/// words of each point's ancestors are in memory at once.
+/// words of each point's ancestors are in memory at once, and are sorted once.
 pub fn generate(
     alloc: Global,
     scheme: Scheme,
