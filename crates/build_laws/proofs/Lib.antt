@@ -1,2 +1,3 @@
 mod Rows
 pub mod Bits
+pub mod Under
