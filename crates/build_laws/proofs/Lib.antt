@@ -1,3 +1,5 @@
 mod Rows
 pub mod Bits
 pub mod Under
+pub mod Nodes
+pub mod Good
