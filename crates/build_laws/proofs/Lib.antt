@@ -3,3 +3,5 @@ pub mod Bits
 pub mod Under
 pub mod Nodes
 pub mod Good
+pub mod Children
+pub mod Outcomes
