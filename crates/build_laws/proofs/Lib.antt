@@ -9,3 +9,4 @@ pub mod Masks
 pub mod Reached
 pub mod Holds
 pub mod Answer
+mod Premises
