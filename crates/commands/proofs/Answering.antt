@@ -1,5 +1,6 @@
 -- What was told of files, as what is wanted; and plans that fit.
-use Rattle.std.proofs.Common.{◌≡◌, ℕ, ◌<◌, ◌≤◌, Bool, true, false, List, [], ◌∷◌, length, refl, sym, ap, subst, ◌∙◌, arith}
+use Rattle.std.proofs.Common.{◌≡◌, ℕ, ◌<◌, ◌≤◌, Bool, true, false, List, [], ◌∷◌, length, refl, sym, ap, subst, ◌∙◌, arith, inl, inr, ◌⊎◌}
+use Rattle.commands.specs.Words.{Wish}
 use Rattle.std.specs.Prelude.{Option, Some, None, IfSome, Result, Ok, Err, IsTrue, ◌↔◌, if◌then◌else◌, nat_lt, nat_le, not, ◌^◌, ◌==◌, ◌&&◌, slice_index, map}
 use Rattle.std.specs.Io.KnownBytes.{Appends}
 use Rattle.std.proofs.KnownBytes.{Appends-nil, Keeps-refl}
@@ -32,8 +33,7 @@ use Rattle.request_text.proofs.Found.{found_make_the_text}
 use Rattle.request_text.proofs.Words.{words_make_the_text}
 use Rattle.commands.specs.declared.status.Status.{Status}
 use Rattle.commands.specs.declared.status.Status.TheVariants.{Done, Faulted, Usage, BadLayout, ReadFault, WriteFault, InputFault, Memory, InputLong}
-use Rattle.commands.specs.Words.{Wish}
-use Rattle.commands.specs.Replies.{Reply, end_status, walk_status, found_status, plan_reply, check_reply, layout_in, reply_over, reply_wanted, Agrees, IsGiven, IsBegun, Replies}
+use Rattle.commands.specs.Replies.{Reply, end_status, walk_status, found_status, plan_reply, check_reply, layout_in, reply_over, reply_in, reply_wanted, Agrees, IsGiven, IsBegun, Replies}
 use Rattle.tile_walk.specs.Plans.{FitsLayout}
 use Rattle.tile_walk.specs.Walks.{IsAnswer, tile_word}
 use Rattle.tile_walk.specs.Checks.{IsCheck}
@@ -169,30 +169,71 @@ pub nothing_begun : (wanted : Result Reply Status) (before : Option (List ℕ)) 
 nothing_begun (Ok reply) before = nothing_given before reply.text
 nothing_begun (Err status) before = Keeps-refl before
 
-bad_layout : (all : Files) (wish : Wish) (wanted : Result Layout Status) (number : ℕ) (before : Option (List ℕ)) → wanted ≡ Err (BadLayout number)
-    → IsGiven (reply_over all wish wanted) before before (BadLayout number)
-bad_layout all wish wanted number before is =
-    let P : Result Layout Status → Type 0 = λ w. IsGiven (reply_over all wish w) before before (BadLayout number) in subst P (sym is) (refl, Keeps-refl before)
+bad_layout : (of : Scene → Reply) (all : Files) (wanted : Result Layout Status) (number : ℕ) (before : Option (List ℕ)) → wanted ≡ Err (BadLayout number)
+    → IsGiven (reply_over of all wanted) before before (BadLayout number)
+bad_layout of all wanted number before is =
+    let P : Result Layout Status → Type 0 = λ w. IsGiven (reply_over of all w) before before (BadLayout number) in subst P (sym is) (refl, Keeps-refl before)
 
 -- a layout that isn't there or is faulty ends the program with nothing given
-early_replies : (all : Files) (wish : Wish) (wanted : Result Layout Status) (status : Status) (before : Option (List ℕ)) → Agrees wanted (Err status)
-    → Replies (reply_over all wish wanted) before before status
-early_replies all wish wanted ReadFault before agrees = Keeps-refl before
-early_replies all wish wanted Memory before agrees = nothing_begun (reply_over all wish wanted) before
-early_replies all wish wanted (BadLayout number) before agrees = bad_layout all wish wanted number before agrees
-early_replies all wish wanted WriteFault before agrees = absurd agrees
-early_replies all wish wanted Done before agrees = absurd agrees
-early_replies all wish wanted Faulted before agrees = absurd agrees
-early_replies all wish wanted Usage before agrees = absurd agrees
-early_replies all wish wanted InputFault before agrees = absurd agrees
-early_replies all wish wanted InputLong before agrees = absurd agrees
+early_replies : (of : Scene → Reply) (all : Files) (wanted : Result Layout Status) (status : Status) (before : Option (List ℕ)) → Agrees wanted (Err status)
+    → Replies (reply_over of all wanted) before before status
+early_replies of all wanted ReadFault before agrees = Keeps-refl before
+early_replies of all wanted Memory before agrees = nothing_begun (reply_over of all wanted) before
+early_replies of all wanted (BadLayout number) before agrees = bad_layout of all wanted number before agrees
+early_replies of all wanted WriteFault before agrees = absurd agrees
+early_replies of all wanted Done before agrees = absurd agrees
+early_replies of all wanted Faulted before agrees = absurd agrees
+early_replies of all wanted Usage before agrees = absurd agrees
+early_replies of all wanted InputFault before agrees = absurd agrees
+early_replies of all wanted InputLong before agrees = absurd agrees
 
-pub told_early : (told : Option Files) (wish : Wish) (found : Option Wish) (status : Status) (before : Option (List ℕ)) → found ≡ Some wish
-    → IfSome told (λ all. Agrees (layout_in all) (Err status)) → IfSome told (λ all. Replies (reply_wanted all found) before before status)
-told_early told wish found status before is agrees =
-    of_told told (λ all. Agrees (layout_in all) (Err status)) (λ all. Replies (reply_wanted all found) before before status) (λ all h.
-    let P : Option Wish → Type 0 = λ o. Replies (reply_wanted all o) before before status in
-    subst P (sym is) (early_replies all wish (layout_in all) status before h)) agrees
+-- what is wanted of files that are told
+pub told_wanted : (told : Option Files) (of : Scene → Reply) (P : Result Reply Status → Type 0) → IfSome told (λ all. P (reply_over of all (layout_in all))) → IfSome (reply_in of told) P
+told_wanted None of P h = tt
+told_wanted (Some all) of P h = h
+
+pub told_early : (told : Option Files) (of : Scene → Reply) (status : Status) (before : Option (List ℕ))
+    → IfSome told (λ all. Agrees (layout_in all) (Err status)) → IfSome (reply_in of told) (λ wanted. Replies wanted before before status)
+told_early told of status before agrees = told_wanted told of (λ wanted. Replies wanted before before status)
+    (of_told told (λ all. Agrees (layout_in all) (Err status)) (λ all. Replies (reply_over of all (layout_in all)) before before status)
+    (λ all h. early_replies of all (layout_in all) status before h) agrees)
+
+-- the reply over the layout that was found is the one that is wanted
+pub told_found : (told : Option Files) (of : Scene → Reply) (layout : Layout) (P : Result Reply Status → Type 0) → IfSome told (λ all. Agrees (layout_in all) (Ok layout))
+    → IfSome told (λ all. P (Ok (of (scene_of all layout)))) → IfSome (reply_in of told) P
+told_found None of layout P agrees h = tt
+told_found (Some all) of layout P agrees h =
+    let Q : Result Layout Status → Type 0 = λ w. P (reply_over of all w) in subst Q (sym agrees) h
+
+-- a fact of what is wanted, whatever it is
+pub of_wanted : (wanted : Option (Result Reply Status)) (P : Result Reply Status → Type 0) → ((w : Result Reply Status) → P w) → IfSome wanted P
+of_wanted None P f = tt
+of_wanted (Some w) P f = f w
+
+-- where no device failed and there was memory, what is wanted was given whole
+given_or_not : (w : Result Reply Status) (S K O X : Type 0) (before now : Option (List ℕ)) (status : Status) → Replies w before now status → (status ≡ ReadFault → S)
+    → (status ≡ WriteFault → O ⊎ (X × K)) → (status ≡ Memory) ⊎ (S ⊎ (K ⊎ (O ⊎ IsGiven w before now status)))
+given_or_not w S K O X before now Memory h read write = inl refl
+given_or_not w S K O X before now ReadFault h read write = inr (inl (read refl))
+given_or_not w S K O X before now WriteFault h read write = inr (inr (elim (write refl) [ inl out ↦ inr (inl out) | inr keep ↦ inl keep.1 ]))
+given_or_not w S K O X before now Done h read write = inr (inr (inr (inr h)))
+given_or_not w S K O X before now Faulted h read write = inr (inr (inr (inr h)))
+given_or_not w S K O X before now Usage h read write = inr (inr (inr (inr h)))
+given_or_not w S K O X before now (BadLayout number) h read write = inr (inr (inr (inr h)))
+given_or_not w S K O X before now InputFault h read write = inr (inr (inr (inr h)))
+given_or_not w S K O X before now InputLong h read write = inr (inr (inr (inr h)))
+
+all_given_or_not : (wanted : Option (Result Reply Status)) (S K O X : Type 0) (before now : Option (List ℕ)) (status : Status) → IfSome wanted (λ w. Replies w before now status)
+    → (status ≡ ReadFault → S) → (status ≡ WriteFault → O ⊎ (X × K)) → IfSome wanted (λ w. (status ≡ Memory) ⊎ (S ⊎ (K ⊎ (O ⊎ IsGiven w before now status))))
+all_given_or_not None S K O X before now status h read write = tt
+all_given_or_not (Some w) S K O X before now status h read write = given_or_not w S K O X before now status h read write
+
+pub complete_of : (told : Option Files) (found : Option Wish) (wish : Wish) (S K O X : Type 0) (before now : Option (List ℕ)) (status : Status) → found ≡ Some wish
+    → IfSome (reply_wanted told (Some wish)) (λ w. Replies w before now status) → (status ≡ ReadFault → S) → (status ≡ WriteFault → O ⊎ (X × K))
+    → IfSome (reply_wanted told found) (λ w. (status ≡ Memory) ⊎ (S ⊎ (K ⊎ (O ⊎ IsGiven w before now status))))
+complete_of told found wish S K O X before now status is replies read write =
+    let P : Option Wish → Type 0 = λ o. IfSome (reply_wanted told o) (λ w. (status ≡ Memory) ⊎ (S ⊎ (K ⊎ (O ⊎ IsGiven w before now status)))) in
+    subst P (sym is) (all_given_or_not (reply_wanted told (Some wish)) S K O X before now status replies read write)
 
 -- ---- the check
 

@@ -11,7 +11,7 @@ use Rattle.implicit_tiling.specs.Answer.{End, complete, too_many, fault, answer}
 use Rattle.implicit_tiling.specs.Checked.{checked}
 use Rattle.implicit_tiling.specs.Text.{answer_text, refused_text, checked_text}
 use Rattle.implicit_tileset.specs.Tileset.{layout_of}
-use Rattle.implicit_tileset.specs.Scene.{scene_of}
+use Rattle.implicit_tileset.specs.Scene.{scene_of, layout_in as layout_of_files}
 use Rattle.scene_ports.specs.Output.{GivesFront}
 use Rattle.tile_coords.specs.declared.walk_end.WalkEnd.{WalkEnd}
 use Rattle.tile_coords.specs.declared.walk_end.WalkEnd.TheVariants.{Partial, Complete, TooMany, Fault}
@@ -112,7 +112,7 @@ reads_files (Some (survey recipe)) = false
 -- what stands among the files that were kept once a recipe was made
 pub record IsMade (r : Recipe) (before now : Files) : Type 0 where
   pub put : ArePut (recipe_files r) before now
-  pub layout : layout_in now ≡ Ok (recipe_layout r)
+  pub layout : layout_of_files now ≡ Ok (recipe_layout r)
   pub holds : HoldsTiles (scene_of now (recipe_layout r)) (recipe_words r)
 
 -- What a call with a status leaves of the files that were kept: the whole tileset; or the first of its files, and of no later one

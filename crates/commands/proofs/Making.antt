@@ -1,0 +1,48 @@
+-- What is left of the files that were kept, and fronts of the texts of what was made.
+use Rattle.std.proofs.Common.{◌≡◌, ◌∙◌, ℕ, Bool, List, [], ◌++◌, length, refl, sym, ap, ap₂, subst, append-nil, inl, ◌⊎◌}
+use Rattle.std.specs.Prelude.{Option, Some, None, Ok}
+use Rattle.implicit_tiling.specs.Files.{Files}
+use Rattle.implicit_tileset.specs.Scene.{scene_of, layout_in as layout_of_files}
+use Rattle.scene_ports.specs.Output.{GivesFront}
+use Rattle.build_laws.specs.Holds.{HoldsTiles}
+use Rattle.tile_builder.specs.Puts.{ArePut, IsCut, IfTold}
+use Rattle.tileset_make.specs.declared.recipe.Recipe.{Recipe}
+use Rattle.tileset_make.specs.Recipes.{recipe_layout, recipe_words, recipe_files, Found, survey_of}
+use Rattle.request_text.specs.Made.{made_text, survey_text}
+use Rattle.commands.specs.declared.status.Status.TheVariants.{Done, WriteFault, Memory}
+use Rattle.commands.specs.Replies.{IsBegun, Leaves, make_reply, survey_reply}
+
+told_all : (before now : Option Files) (P Q : Files → Files → Type 0) → ((b n : Files) → P b n → Q b n) → IfTold before now P → IfTold before now Q
+told_all None now P Q f h = tt
+told_all (Some b) None P Q f h = h
+told_all (Some b) (Some n) P Q f h = f b n h
+
+-- all files were put
+whole : (files before now : Files) → ArePut files before now → IsCut files before now
+whole files before now put = record { done = files; rest = []; parts = sym (append-nil files); put = put }
+
+pub left_whole : (before now : Option Files) (r : Recipe) → IfTold before now (ArePut (recipe_files r)) → IfTold before now (λ b n. Leaves r b n WriteFault)
+left_whole before now r = told_all before now (ArePut (recipe_files r)) (λ b n. Leaves r b n WriteFault) (λ b n put. inl (whole (recipe_files r) b n put))
+
+pub left_in_memory : (before now : Option Files) (r : Recipe) → IfTold before now (ArePut (recipe_files r)) → IfTold before now (λ b n. Leaves r b n Memory)
+left_in_memory before now r = told_all before now (ArePut (recipe_files r)) (λ b n. Leaves r b n Memory) (λ b n put. whole (recipe_files r) b n put)
+
+pub left_made : (before now : Option Files) (r : Recipe) → IfTold before now (ArePut (recipe_files r)) → IfTold before now (λ b n. layout_of_files n ≡ Ok (recipe_layout r))
+    → IfTold before now (λ b n. HoldsTiles (scene_of n (recipe_layout r)) (recipe_words r)) → IfTold before now (λ b n. Leaves r b n Done)
+left_made None now r put layout holds = tt
+left_made (Some b) None r put layout holds = put
+left_made (Some b) (Some n) r put layout holds = record { put = put; layout = layout; holds = holds }
+
+-- a front of the text of what was made
+pub made_front : (r : Recipe) (files tiles : ℕ) (before now : Option (List ℕ)) → files ≡ length (recipe_files r) → tiles ≡ length (recipe_words r)
+    → GivesFront before now (made_text files tiles) → IsBegun (Ok (make_reply r)) before now
+made_front r files tiles before now few many front = subst (GivesFront before now) (ap₂ made_text few many) front
+
+-- and of what was surveyed
+pub survey_front : (r : Recipe) (files tiles listed contents : ℕ) (more : Bool) (before now : Option (List ℕ)) → files ≡ (survey_of r).files → tiles ≡ (survey_of r).tiles
+    → listed ≡ (survey_of r).listed → contents ≡ (survey_of r).contents → more ≡ (survey_of r).more
+    → GivesFront before now (survey_text files tiles listed contents more) → IsBegun (Ok (survey_reply r)) before now
+survey_front r files tiles listed contents more before now a b c d e front =
+    let s : Found = survey_of r in
+    subst (GivesFront before now) (ap (λ n. survey_text n tiles listed contents more) a ∙ (ap (λ n. survey_text s.files n listed contents more) b
+    ∙ (ap (λ n. survey_text s.files s.tiles n contents more) c ∙ (ap (λ n. survey_text s.files s.tiles s.listed n more) d ∙ ap (survey_text s.files s.tiles s.listed s.contents) e)))) front

@@ -1,0 +1,31 @@
+use Rattle.std.proofs.Common.{◌≡◌, ap, subst, length, ◌∙◌}
+use Rattle.std.specs.Prelude.{◌==◌}
+use Rattle.implicit_tiling.specs.Scene.{Layout}
+use Rattle.tileset_json.specs.Limits.{IsWithinLimits}
+use Rattle.commands.proofs.Answering.{of_each, nothing_given, empty_means, told_checked, told_check_begun}
+use Rattle.commands.proofs.check.check_layout.Goals as goal
+
+pub returns-in-Err-Memory-clause-replies : goal.returns-in-Err-Memory-clause-replies
+returns-in-Err-Memory-clause-replies g c = of_each _ _ (λ all. nothing_given _ _)
+
+pub returns-in-Ok-write_check-clause-replies : goal.returns-in-Ok-write_check-clause-replies
+returns-in-Ok-write_check-clause-replies g c =
+    let same : c.layout.inside.scheme ≡ c.args.layout.now.scheme = ap (λ (l : Layout). l.scheme) c.layout.view_is in
+    let found = rw c.deref.ensures.value at c.in-Ok-write_check.ensures.given in
+    let given = rw same at found in
+    let empty : c.is_empty.result ≡ (length c.check_all.new.found.items == 0) = c.is_empty.ensures ∙ ap (λ n. n == 0) c.check_all.new.found.ok.0 in
+    told_checked _ c.args.layout.now _ c.in-Ok.end c.is_empty.result c.status_of.result _ _ (subst IsWithinLimits c.layout.view_is c.layout.invariant) c.in-Ok.ensures.checked given (empty_means _ c.is_empty.result empty) c.status_of.ensures
+
+pub returns-in-Err-WriteFault-clause-replies : goal.returns-in-Err-WriteFault-clause-replies
+returns-in-Err-WriteFault-clause-replies g c =
+    let same : c.layout.inside.scheme ≡ c.args.layout.now.scheme = ap (λ (l : Layout). l.scheme) c.layout.view_is in
+    let found = rw c.deref.ensures.value at c.write_check.ensures.front in
+    let front = rw same at found in
+    told_check_begun _ c.args.layout.now _ c.in-Ok.end _ _ (subst IsWithinLimits c.layout.view_is c.layout.invariant) c.in-Ok.ensures.checked front
+
+pub returns-clause-replies : goal.returns-clause-replies
+returns-clause-replies g c =
+    let same : c.layout.inside.scheme ≡ c.args.layout.now.scheme = ap (λ (l : Layout). l.scheme) c.layout.view_is in
+    let found = rw c.deref.ensures.value at c.write_check.ensures.front in
+    let front = rw same at found in
+    told_check_begun _ c.args.layout.now _ c.in-Ok.end _ _ (subst IsWithinLimits c.layout.view_is c.layout.invariant) c.in-Ok.ensures.checked front
