@@ -40,15 +40,3 @@ module _ {K : Type 0} (eq : K → K → Bool) (key : K) (census seen : List (Fra
   -- where there is no place, no frame has the key
   pub none-has : None ≡ position (has_key eq key) seen → seen ≡ census → NoneHas eq key census
   none-has place same = none-at (has_key eq key) census (ap (position (has_key eq key)) (sym same) ∙ sym place)
-
--- an order that was written through a slice
-pub front-written : (len f : ℕ) (items seen new : List ℕ) → len ≡ length items → count_by (λ g. eqb g f) items ≡ 1 → seen ≡ items → new ≡ asked_last f seen → take len (new ++ drop (length new) items) ≡ asked_last f items
-front-written len f items seen new long once same is =
-    let front = is ∙ ap (asked_last f) same in
-    let many : length new ≡ length items = ap length front ∙ length_permutation items (asked_last f items) (permutation-asked_last f items (length-filter (λ g. eqb g f) items ∙ once)) in
-    ap (λ n. take len (new ++ drop n items)) many
-    ∙ ap (λ ys. take len (new ++ ys)) (drop-length items)
-    ∙ ap (take len) (append-nil new)
-    ∙ ap (λ n. take n new) (long ∙ sym many)
-    ∙ take-length new
-    ∙ front

@@ -1,8 +1,13 @@
 pub mod Asking
+pub mod Empties
 pub mod Fronts
 pub mod Holders
 pub mod Keeping
+pub mod Kept
+pub mod Linked
 pub mod Looks
+pub mod Noted
 pub mod Places
 pub mod Pools
+pub mod Runs
 pub mod Victims

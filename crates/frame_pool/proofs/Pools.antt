@@ -39,7 +39,7 @@ module _ {K : Type 0} (eq : K → K → Bool) where
   alike : IsPartialEquivalence eq → (own key third : K) → eq own third ≡ true → eq key third ≡ true → eq own key ≡ true
   alike laws own key third a b = laws.trans own third key a (laws.symm third key ∙ b)
 
-  has-alike : IsPartialEquivalence eq → (state : FrameState K) (key third : K) → has_key eq third state ≡ true → eq key third ≡ true → has_key eq key state ≡ true
+  pub has-alike : IsPartialEquivalence eq → (state : FrameState K) (key third : K) → has_key eq third state ≡ true → eq key third ≡ true → has_key eq key state ≡ true
   has-alike laws Empty key third a b = a
   has-alike laws (Loading own) key third a b = alike laws own key third a b
   has-alike laws (Ready own pins) key third a b = alike laws own key third a b

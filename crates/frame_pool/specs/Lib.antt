@@ -1,3 +1,4 @@
+pub mod Finding
 pub mod Frames
 pub mod Moves
 pub mod States

@@ -1,6 +1,6 @@
 //! What a frame is, and what is answered to one who asks for a key.
 ghost use Rattle.std.specs.Prelude.{◌≡◌};
-ghost use Rattle.frame_pool.specs.States.{has_key, is_empty, is_free};
+ghost use Rattle.frame_pool.specs.States.{has_key, is_empty, is_free, key_of};
 
 /// The state of a frame.
 #[derive(Clone, Copy, Debug, PartialEq, Eq)]
@@ -27,6 +27,15 @@ pub enum Asked {
 }
 
 impl<K: Copy + Eq> FrameState<K> {
+    pub(crate) fn key(&self) -> Option<K>
+        ensures { result ≡ key_of self.now }
+    {
+        match self {
+            FrameState::Empty => None,
+            FrameState::Loading { key } | FrameState::Ready { key, .. } => Some(*key),
+        }
+    }
+
     pub(crate) fn has(&self, key: K) -> bool
         ensures { result ≡ has_key K.eq key self.now }
     {

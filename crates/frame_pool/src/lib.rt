@@ -3,10 +3,13 @@
 #![tactic(auto)]
 
 mod frame;
+mod key_notes;
 mod order;
 mod pool;
+mod victim;
 
 pub use frame::{Asked, FrameState};
+pub use order::Order;
 pub use pool::Pool;
 
 #[cfg(test)]

@@ -1,66 +1,100 @@
-//! The order of the frames, the last asked first, and the frame that is given up.
-ghost use Rattle.std.specs.Prelude.{◌≡◌, ◌≤◌, ℕ, eqb, count_by, position, length, slice_get};
-ghost use Rattle.frame_pool.specs.States.{has_key, is_empty};
-ghost use Rattle.frame_pool.specs.Frames.{victim as victim_of, last_free as last_free_of, is_free_frame};
+//! The order of the frames, the last asked first.
+ghost use Rattle.std.specs.Prelude.{◌≡◌, ◌≤◌, ℕ, eqb, count_by, length, IfOk};
+ghost use Rattle.std.specs.List.{range_with_len};
+ghost use Rattle.std.specs.NonZero.{non_zero_usize_get};
+ghost use Rattle.std.specs.Iterator.{at_most};
+ghost use Rattle.std.specs.Map.Iter.{TakesFirst, TakesLast, GivesInOrder, GivesInReverse};
 ghost use Rattle.frame_pool.specs.Moves.{asked_last};
 
-use crate::frame::FrameState;
+use lru::LruCache;
+use std::alloc::{AllocError, Global};
+use std::marker::Model;
+use std::num::NonZeroUsize;
 
-/// Moves the frame to the front.
-pub(crate) fn move_to_front(order: &mut [u32], frame: u32)
-    requires { count_by (λ g. eqb g frame) order.old ≡ 1 }
-    ensures { order.new ≡ asked_last frame order.old }
-{
-    let at = place_of(order, frame).unwrap();
-    order.copy_within(0..at, 1);
-    order[0] = frame;
+// The numbers of the frames in a linked list, so that a frame comes to the front without a move of the others.
+#[derive(Drop)]
+pub(crate) struct FrameOrder {
+    frames: LruCache<u32, ()>,
 }
 
-fn place_of(order: &[u32], frame: u32) -> Option<usize>
-    ensures { result ≡ position (λ g. eqb g frame) order.now }
-{
-    order.iter().position(|other| *other == frame)
+impl Model for FrameOrder {
+    ghost use Rattle.std.specs.Prelude.{ℕ, List};
+    ghost use Rattle.std.specs.Map.{keys_of};
+
+    ghost Value = { List ℕ };
+
+    ghost view = { λ o. keys_of o.frames.entries };
 }
 
-/// The frame that has the key.
-pub(crate) fn holder<K: Copy + Eq>(census: &[FrameState<K>], key: K) -> Option<usize>
-    ensures { result ≡ position (has_key K.eq key) census.now }
-{
-    census.iter().position(|state| state.has(key))
-}
+impl FrameOrder {
+    // The frames below the number, each after the one before it.
+    pub(crate) fn new(alloc: Global, frames: NonZeroUsize) -> Result<FrameOrder, AllocError>
+        requires { non_zero_usize_get frames ≤ 1024 }
+        ensures { IfOk result (λ order. order ≡ range_with_len 0 (non_zero_usize_get frames)) }
+    {
+        let mut order = LruCache::new(alloc, frames)?;
+        for frame in (0..frames.get()).rev() {
+            order.put(frame as u32, ())?;
+        }
+        Ok(FrameOrder { frames: order })
+    }
 
-/// The frame that is given up for a new key.
-pub(crate) fn victim<K: Copy + Eq>(census: &[FrameState<K>], order: &[u32]) -> Option<u32>
-    requires { length census.now ≤ 1024 }
-    ensures { result ≡ victim_of census.now order.now }
-{
-    match first_empty(census) {
-        Some(frame) => Some(frame as u32),
-        None => last_free(census, order),
+    // Moves the frame to the front.
+    pub(crate) fn move_to_front(&mut self, frame: u32)
+        requires { count_by (λ g. eqb g frame) self.old ≡ 1 }
+        ensures { self.new ≡ asked_last frame self.old }
+    {
+        self.frames.promote(&frame);
+    }
+
+    pub(crate) fn iter(&self) -> Order<'_>
+        ensures rest { result ≡ self.now }
+        ensures runs { GivesInOrder ℕ }
+        ensures runs_back { GivesInReverse ℕ }
+    {
+        Order {
+            frames: self.frames.iter(),
+        }
     }
 }
 
-fn first_empty<K: Copy + Eq>(census: &[FrameState<K>]) -> Option<usize>
-    ensures { result ≡ position is_empty census.now }
-{
-    census.iter().position(|state| state.is_empty())
+/// The numbers of the frames, the last asked first. It is seen as the list of those that are left.
+#[derive(Drop)]
+pub struct Order<'a> {
+    frames: lru::Iter<'a, u32, ()>,
 }
 
-fn last_free<K: Copy + Eq>(census: &[FrameState<K>], order: &[u32]) -> Option<u32>
-    ensures { result ≡ last_free_of census.now order.now }
-{
-    order
-        .iter()
-        .rev()
-        .copied()
-        .find(|frame| is_free(census, *frame))
+impl<'a> Model for Order<'a> {
+    ghost use Rattle.std.specs.Prelude.{ℕ, List};
+    ghost use Rattle.std.specs.Map.{keys_of};
+
+    ghost Value = { List ℕ };
+
+    ghost view = { λ o. keys_of o.frames };
 }
 
-fn is_free<K: Copy + Eq>(census: &[FrameState<K>], frame: u32) -> bool
-    ensures { result ≡ is_free_frame (slice_get census.now frame) }
-{
-    match census.get(frame as usize) {
-        Some(state) => state.is_free(),
-        None => false,
+impl<'a> Iterator for Order<'a> {
+    type Item = u32;
+
+    ghost next_gives = { TakesFirst (λ frame. frame) };
+
+    ghost remaining = { λ left. at_most (length left) };
+
+    fn next(&mut self) -> Option<u32> {
+        let (frame, _) = self.frames.next()?;
+        Some(*frame)
+    }
+
+    fn size_hint(&self) -> (usize, Option<usize>) {
+        self.frames.size_hint()
+    }
+}
+
+impl<'a> DoubleEndedIterator for Order<'a> {
+    ghost next_back_gives = { TakesLast (λ frame. frame) };
+
+    fn next_back(&mut self) -> Option<u32> {
+        let (frame, _) = self.frames.next_back()?;
+        Some(*frame)
     }
 }

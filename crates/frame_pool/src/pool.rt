@@ -2,6 +2,7 @@
 ghost use Rattle.std.specs.Prelude.{◌≡◌, ◌-◌, ◌^◌, ◌<◌, ◌≤◌, ℕ, length, replicate, slice_get, IfOk, IfSome, Some, None};
 ghost use Rattle.std.specs.List.{range_with_len};
 ghost use Rattle.std.specs.List.Sorted.{IsPermutation};
+ghost use Rattle.std.specs.Map.Iter.{GivesInOrder, GivesInReverse};
 ghost use Rattle.frame_pool.specs.States.{pins_of};
 ghost use Rattle.frame_pool.specs.Frames.{EachFrame, IsLoadingAt, IsReadyAt, IsPinnedAt, HasKeysOnce, KeepsPinned, empty_frames};
 ghost use Rattle.frame_pool.specs.Moves.{IsAnswer, MayGoOn, after_ask, after_settle, after_unpin, settled as settled_of};
@@ -9,39 +10,55 @@ ghost use Rattle.frame_pool.specs.declared.frame.FrameState.TheVariants.{Empty a
 ghost use Rattle.frame_pool.specs.declared.frame.Asked.{Asked as asked};
 
 use crate::frame::{Asked, FrameState};
-use crate::order::{holder, move_to_front, victim};
+use crate::key_notes::{holder, note};
+use crate::order::{FrameOrder, Order};
+use crate::victim::{least_empty_after, victim};
 use std::alloc::{AllocError, Global};
+use std::collections::HashMap;
+use std::hash::Hash;
 use std::marker::Model;
+use std::num::NonZeroUsize;
 
 /// Frames for values with keys, of which each value stands in one frame and stays there while it is pinned.
 #[derive(Drop)]
-pub struct Pool<K: Copy + Eq, V: Drop> {
+pub struct Pool<K: Copy + Eq + Hash, V: Drop> {
     census: Vec<FrameState<K>>,
     values: Vec<Option<V>>,
-    order: Vec<u32>,
+    order: FrameOrder,
+    // The frame that each key was last given.
+    notes: HashMap<K, u32>,
+    // No frame below it is empty.
+    least_empty: usize,
 }
 
-impl<K: Copy + Eq, V: Drop> Model for Pool<K, V> {
-    ghost use Rattle.frame_pool.specs.Frames.{Frames, IsPool};
+impl<K: Copy + Eq + Hash, V: Drop> Model for Pool<K, V> {
+    ghost use Rattle.frame_pool.specs.Frames.{Frames};
+    ghost use Rattle.frame_pool.specs.Finding.{IsKept};
 
     ghost Value = { Frames K V };
 
-    ghost view = { λ p. record { census = p.census.items; values = p.values.items; order = p.order.items } };
+    ghost view = { λ p. record { census = p.census.items; values = p.values.items; order = p.order } };
 
-    ghost invariant = { λ p. IsPool K.eq p.census.items p.values.items p.order.items };
+    ghost invariant = { λ p. IsKept K.eq p.census.items p.values.items p.order p.notes p.least_empty };
 }
 
-impl<K: Copy + Eq, V: Drop> Pool<K, V> {
+impl<K: Copy + Eq + Hash, V: Drop> Pool<K, V> {
     /// A pool of this many empty frames, in the order of their numbers. All memory of the pool is taken here; an
     /// error is want of it.
     pub fn new(alloc: Global, frames: usize) -> Result<Pool<K, V>, AllocError>
         requires { (1 ≤ frames) × (frames ≤ 1024) }
         ensures { IfOk result (λ pool. pool ≡ empty_frames frames) }
     {
+        let Some(count) = NonZeroUsize::new(frames) else {
+            unreachable!()
+        };
         Ok(Pool {
             census: empty_states(alloc, frames)?,
             values: no_values(alloc, frames)?,
-            order: numbers(alloc, frames)?,
+            order: FrameOrder::new(alloc, count)?,
+            // Room for as many notes again, so that they are seldom made anew.
+            notes: HashMap::with_capacity(alloc, 2 * frames)?,
+            least_empty: 0,
         })
     }
 
@@ -54,11 +71,13 @@ impl<K: Copy + Eq, V: Drop> Pool<K, V> {
     }
 
     /// The numbers of the frames, the last asked first.
-    pub fn order(&self) -> &[u32]
-        ensures order { result.now ≡ self.now.order }
+    pub fn order(&self) -> Order<'_>
+        ensures order { result ≡ self.now.order }
+        ensures runs { GivesInOrder ℕ }
+        ensures runs_back { GivesInReverse ℕ }
         ensures numbers { IsPermutation (range_with_len 0 (length self.now.census)) self.now.order }
     {
-        &self.order
+        self.order.iter()
     }
 
     /// Asks for the value of the key. A hit is one more pin of its frame, which `unpin` ends. A granted frame waits
@@ -73,23 +92,24 @@ impl<K: Copy + Eq, V: Drop> Pool<K, V> {
         ensures pinned { KeepsPinned self.old self.new }
         ensures next { MayGoOn result self.new.census }
     {
-        match holder(&self.census, key) {
-            Some(frame) => match self.census[frame] {
+        match holder(&self.census, &self.notes, key) {
+            Some(frame) => match self.census[frame as usize] {
                 FrameState::Ready { key: own, pins } => {
-                    self.census[frame] = FrameState::Ready {
+                    self.census[frame as usize] = FrameState::Ready {
                         key: own,
                         pins: pins + 1,
                     };
-                    move_to_front(&mut self.order, frame as u32);
-                    Asked::Hit(frame as u32)
+                    self.order.move_to_front(frame);
+                    Asked::Hit(frame)
                 }
                 _ => Asked::Loading,
             },
-            None => match victim(&self.census, &self.order) {
+            None => match victim(&self.census, &self.order, &mut self.least_empty) {
                 Some(frame) => {
+                    note(&self.census, &mut self.notes, key, frame);
                     self.census[frame as usize] = FrameState::Loading { key };
                     self.values[frame as usize] = None;
-                    move_to_front(&mut self.order, frame);
+                    self.order.move_to_front(frame);
                     Asked::Granted(frame)
                 }
                 None => Asked::Busy,
@@ -108,7 +128,9 @@ impl<K: Copy + Eq, V: Drop> Pool<K, V> {
         let FrameState::Loading { key } = self.census[at] else {
             unreachable!()
         };
-        self.census[at] = settled(key, &value);
+        let state = settled(key, &value);
+        self.least_empty = least_empty_after(self.least_empty, at, &state);
+        self.census[at] = state;
         self.values[at] = value;
     }
 
@@ -168,15 +190,4 @@ fn no_values<V: Drop>(alloc: Global, frames: usize) -> Result<Vec<Option<V>>, Al
         values.push(None)?;
     }
     Ok(values)
-}
-
-fn numbers(alloc: Global, frames: usize) -> Result<Vec<u32>, AllocError>
-    requires { frames ≤ 1024 }
-    ensures { IfOk result (λ order. order.items ≡ range_with_len 0 frames) }
-{
-    let mut order = Vec::with_capacity(alloc, frames)?;
-    for frame in 0..frames {
-        order.push(frame as u32)?;
-    }
-    Ok(order)
 }

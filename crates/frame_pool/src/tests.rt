@@ -64,7 +64,8 @@ fn frames_are_asked_for(rt: HostRuntime) -> Result<(), Fail> {
     for (key, done, wanted) in rows {
         assert!(rt; ask(&mut pool, key, done) == wanted);
     }
-    assert!(rt; pool.order() == [0, 1].as_slice());
+    let order: Vec<u32> = pool.order().collect(rt.alloc())?;
+    assert!(rt; order.as_slice() == [0, 1].as_slice());
     let loading = pool
         .census()
         .iter()
