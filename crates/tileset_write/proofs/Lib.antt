@@ -2,3 +2,4 @@ mod LayoutRows
 pub mod LayoutReads
 pub mod LayoutStated
 pub mod LayoutMade
+pub mod LayoutKept

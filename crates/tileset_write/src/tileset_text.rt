@@ -1,8 +1,10 @@
 // The text of `tileset.json`.
-ghost use Rattle.std.specs.Prelude.{◌≡◌, ◌++◌, IfOk, OnOk, OnErr, map};
+ghost use Rattle.std.specs.Prelude.{◌≡◌, ◌++◌, Ok, IfOk, OnOk, OnErr, map};
+ghost use Rattle.std.specs.List.{All};
 ghost use Rattle.serde_json.specs.Data.{string};
 ghost use Rattle.serde_json.specs.View.{view, members_view};
-ghost use Rattle.tileset_write.specs.LayoutText.{uri_value as uri_value_of, asset_value as asset_value_of, box_value as box_value_of, implicit_value as implicit_value_of, root_value as root_value_of, layout_value as layout_value_of, layout_text as layout_text_of, scheme_name as name_of};
+ghost use Rattle.implicit_tileset.specs.Tileset.{layout_of};
+ghost use Rattle.tileset_write.specs.LayoutText.{uri_value as uri_value_of, asset_value as asset_value_of, box_value as box_value_of, implicit_value as implicit_value_of, root_value as root_value_of, layout_value as layout_value_of, layout_text as layout_text_of, scheme_name as name_of, IsLayout, IsTemplateText};
 ghost use Rattle.tileset_write.specs.LayoutMembers.{put_contents as with_contents, row};
 
 use serde_json::{Map, Value, put};
@@ -11,10 +13,11 @@ use tile_coords::Scheme;
 use tileset_json::Layout;
 use uri_template::Template;
 
-/// Appends the text of a `tileset.json` for a layout (OGC 22-025r4, implicit tiling: implicit root tile, subtrees). It
-/// reads back as the layout: `layout_laws` says so. An Err, which comes of memory alone, leaves `out` as it was.
+/// Appends the text of a `tileset.json` for a layout (OGC 22-025r4, implicit tiling: implicit root tile, subtrees), which
+/// states the layout without a fault. An Err, which comes of memory alone, leaves `out` as it was.
 pub fn layout_text(alloc: Global, layout: &Layout, out: &mut Vec<u8>) -> Result<(), AllocError>
     ensures ok { OnOk result (out.new.items ≡ out.old.items ++ layout_text_of layout.now) }
+    ensures stated { OnOk result (layout_of (layout_text_of layout.now) ≡ Ok layout.now) }
     ensures err { OnErr result (out.new.items ≡ out.old.items) }
 {
     let text = layout_value(alloc, layout)?.to_vec(alloc)?;
@@ -22,7 +25,8 @@ pub fn layout_text(alloc: Global, layout: &Layout, out: &mut Vec<u8>) -> Result<
 }
 
 fn layout_value(alloc: Global, layout: &Layout) -> Result<Value, AllocError>
-    ensures { IfOk result (λ value. view value ≡ layout_value_of layout.now) }
+    ensures value { IfOk result (λ value. view value ≡ layout_value_of layout.now) }
+    ensures layout { OnOk result (IsLayout layout.now) }
 {
     let mut members = Map::new(alloc);
     put(&mut members, alloc, "asset", asset_value(alloc)?)?;
@@ -39,9 +43,10 @@ fn asset_value(alloc: Global) -> Result<Value, AllocError>
     Ok(Value::Object(members))
 }
 
-// The root tile.
+// The root tile. What was put into it is within the limits, and its templates are templates.
 fn root_value(alloc: Global, layout: &Layout) -> Result<Value, AllocError>
-    ensures { IfOk result (λ value. view value ≡ root_value_of layout.now.contents (implicit_value_of layout.now.scheme layout.now.subtree_levels layout.now.levels layout.now.subtree)) }
+    ensures value { IfOk result (λ value. view value ≡ root_value_of layout.now.contents (implicit_value_of layout.now.scheme layout.now.subtree_levels layout.now.levels layout.now.subtree)) }
+    ensures layout { OnOk result (IsLayout layout.now) }
 {
     let mut members = Map::new(alloc);
     put(&mut members, alloc, "boundingVolume", box_value(alloc)?)?;
@@ -89,7 +94,8 @@ fn implicit_value(
     levels: u32,
     subtree: &Template,
 ) -> Result<Value, AllocError>
-    ensures { IfOk result (λ value. view value ≡ implicit_value_of scheme subtree_levels levels subtree.now) }
+    ensures value { IfOk result (λ value. view value ≡ implicit_value_of scheme subtree_levels levels subtree.now) }
+    ensures template { OnOk result (IsTemplateText subtree.now) }
 {
     let mut members = Map::new(alloc);
     put(
@@ -127,7 +133,8 @@ fn text_value(alloc: Global, text: &str) -> Result<Value, AllocError>
 
 // An object whose `uri` is a template.
 fn uri_value(alloc: Global, template: &Template) -> Result<Value, AllocError>
-    ensures { IfOk result (λ value. view value ≡ uri_value_of template.now) }
+    ensures value { IfOk result (λ value. view value ≡ uri_value_of template.now) }
+    ensures template { OnOk result (IsTemplateText template.now) }
 {
     let mut members = Map::new(alloc);
     put(
@@ -145,7 +152,8 @@ fn put_contents(
     alloc: Global,
     contents: &[Template],
 ) -> Result<(), AllocError>
-    ensures { OnOk result (members_view members.new.entries ≡ with_contents contents.now (members_view members.old.entries)) }
+    ensures members { OnOk result (members_view members.new.entries ≡ with_contents contents.now (members_view members.old.entries)) }
+    ensures templates { OnOk result (All IsTemplateText contents.now) }
 {
     if contents.is_empty() {
         return Ok(());
@@ -162,7 +170,8 @@ fn put_contents(
 }
 
 fn uri_values(alloc: Global, contents: &[Template]) -> Result<Vec<Value>, AllocError>
-    ensures { IfOk result (λ values. map view values.items ≡ map uri_value_of contents.now) }
+    ensures values { IfOk result (λ values. map view values.items ≡ map uri_value_of contents.now) }
+    ensures templates { OnOk result (All IsTemplateText contents.now) }
 {
     let mut values = Vec::new(alloc);
     for template in contents {

@@ -1,5 +1,5 @@
 // Templates: texts that were tested once, and are filled for many tiles.
-ghost use Rattle.std.specs.Prelude.{◌≡◌, ◌<◌, ◌≤◌, ◌↔◌, ◌++◌, ◌*◌, false, IfOk, OnOk, OnErr, string_bytes, is_ok, length};
+ghost use Rattle.std.specs.Prelude.{◌≡◌, ◌<◌, ◌≤◌, ◌↔◌, ◌++◌, ◌*◌, false, IfOk, IsTrue, OnOk, OnErr, string_bytes, is_ok, length};
 ghost use Rattle.uri_template.specs.Filling.{scheme_of, tile_of};
 ghost use Rattle.implicit_tiling.specs.Template.{filled, is_template, is_printable as printable};
 
@@ -57,7 +57,8 @@ impl Template {
 
     /// The text, with its variables as they stand.
     pub fn as_str(&self) -> &str
-        ensures { result.now ≡ self.now }
+        ensures text { result.now ≡ self.now }
+        ensures template { IsTrue (is_template result.now) }
     {
         self.text.as_str()
     }
