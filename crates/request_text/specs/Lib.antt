@@ -3,3 +3,4 @@ pub mod Fields
 pub mod Found
 pub mod Laws
 pub mod Lines
+pub mod Made

@@ -1,4 +1,4 @@
-//! Request lines and the texts of answers: what a user writes, and what is written back.
+//! Request lines and the texts of answers, checks and made tilesets: what a user writes, and what is written back.
 //! Both are exact: a line is read to its plan or refused by the first rule that it breaks, and an outlet gets the text
 //! of an answer and nothing else.
 #![tactic(auto)]
@@ -8,11 +8,13 @@ mod fields;
 pub mod laws;
 mod length;
 mod line;
+mod made_text;
 mod text;
 
 pub use check_text::write_check;
 pub use length::answer_length;
 pub use line::{Refusal, is_coordinates, is_number, parse_line};
+pub use made_text::{write_made, write_survey};
 pub use text::{write_answer, write_refusal};
 
 #[cfg(test)]

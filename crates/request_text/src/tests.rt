@@ -5,7 +5,8 @@ ghost use Rattle.implicit_tiling.specs.Code.{IsWord};
 ghost use Rattle.request_text.specs.Ends.{HasWord};
 
 use crate::{
-    answer_length, is_coordinates, is_number, parse_line, write_answer, write_check, write_refusal,
+    answer_length, is_coordinates, is_number, parse_line, write_answer, write_check, write_made,
+    write_refusal, write_survey,
 };
 use availability::tile_of;
 use scene_ports::{GiveFault, MemoryLink};
@@ -253,6 +254,40 @@ fn texts_of_checks_and_refusals(rt: HostRuntime) -> Result<(), Fail> {
     assert!(rt; write_refusal(alloc, 4, &mut link) == Ok(()));
     assert!(rt; write_refusal(alloc, 4, &mut link) == Err(GiveFault::WriteFault));
     assert!(rt; link.written() == b"refused\t4\n".as_slice());
+    Ok(())
+}
+
+#[test]
+fn texts_of_made_tilesets(rt: HostRuntime) -> Result<(), Fail> {
+    let alloc = rt.alloc();
+    let rows: [([u64; 4], bool, &str); 3] = [
+        (
+            [4, 3, 2, 0],
+            false,
+            "made\t4\t3\nsurvey\t4\t3\t2\t0\tcomplete\n",
+        ),
+        (
+            [86_003, 251_012, 65_536, 524_288],
+            true,
+            "made\t86003\t251012\nsurvey\t86003\t251012\t65536\t524288\ttoo-many\n",
+        ),
+        (
+            [2, 1, 1, u64::MAX],
+            false,
+            "made\t2\t1\nsurvey\t2\t1\t1\t18446744073709551615\tcomplete\n",
+        ),
+    ];
+    for ([files, tiles, listed, contents], more, wanted) in rows {
+        let mut link = link(alloc, &[3, 4])?;
+        assert!(rt; write_made(alloc, files, tiles, &mut link) == Ok(()));
+        let given = write_survey(alloc, files, tiles, listed, contents, more, &mut link);
+        assert!(rt; given == Ok(()));
+        let failed = write_made(alloc, files, tiles, &mut link);
+        assert!(rt; failed == Err(GiveFault::WriteFault));
+        let failed = write_survey(alloc, files, tiles, listed, contents, more, &mut link);
+        assert!(rt; failed == Err(GiveFault::WriteFault));
+        assert!(rt; link.written() == wanted.as_bytes());
+    }
     Ok(())
 }
 
