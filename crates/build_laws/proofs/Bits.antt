@@ -1,17 +1,15 @@
 -- Bits that are 1 at given places, and at the places of given words.
-use Rattle.std.proofs.Common.{◌≡◌, ℕ, ◌+◌, ◌%◌, ◌^◌, ◌<◌, ◌≤◌, Bool, true, false, List, [], ◌∷◌, length, map, refl, sym, ap, subst, ◌∙◌, arith, zero-add, inl, inr, ◌⊎◌}
+use Rattle.std.proofs.Common.{◌≡◌, ℕ, ◌<◌, ◌≤◌, true, false, List, [], ◌∷◌, length, map, sym, ap, subst, ◌∙◌, arith, zero-add, inl, inr, ◌⊎◌}
 use Rattle.std.specs.Prelude.{◌==◌}
 use Rattle.std.specs.List.{list_any, Contains}
 use Rattle.std.proofs.lemmas.Bool.{cases_lt, eqb-true, eq-eqb, both_ways}
-use Rattle.std.proofs.lemmas.List.{get_or-map, length-map, get_or_default, get_or_past}
+use Rattle.std.proofs.lemmas.List.{get_or-map, length-map, get_or_past}
 use Rattle.std.proofs.lemmas.List.Folds.{Any-from_list_any, list_any_at}
 use Rattle.std.proofs.lemmas.List.FromFn.{length-map-range_with_len, get_or-map-range_with_len}
-use Rattle.implicit_tiling.specs.Tile.{branching}
 use Rattle.implicit_tiling.specs.Scene.{Layout}
 use Rattle.implicit_tiling.specs.Availability.{place}
 use Rattle.implicit_tiling.specs.Subtree.{bit_at, node_count, child_count}
 use Rattle.tiling_laws.proofs.Rising.{none_in_nil, contains_first, contains_later, contains_cases}
-use Rattle.tiling_laws.proofs.Ancestors.{branching_pow_pos}
 use Rattle.tiling_laws.proofs.Places.{place_below, within_level}
 use Rattle.build_laws.specs.Made.{bits_at, tile_in, node_bits, child_place, child_bits}
 

@@ -1,5 +1,5 @@
 -- The child bits of a made subtree, by the roots right below it.
-use Rattle.std.proofs.Common.{◌≡◌, ℕ, zero, suc, ◌+◌, ◌-◌, ◌*◌, ◌/◌, ◌%◌, ◌^◌, ◌<◌, ◌≤◌, true, List, refl, sym, ap, subst, ◌∙◌, arith}
+use Rattle.std.proofs.Common.{◌≡◌, ℕ, zero, suc, ◌+◌, ◌-◌, ◌*◌, ◌/◌, ◌%◌, ◌^◌, ◌<◌, ◌≤◌, true, List, sym, ap, subst, ◌∙◌, arith}
 use Rattle.std.specs.Prelude.{◌&&◌, nat_lt}
 use Rattle.std.specs.List.{Contains}
 use Rattle.std.proofs.Math.Nat.{div-add-mod}
@@ -14,7 +14,7 @@ use Rattle.tiling_laws.proofs.TileAt.{tile_at_is_tile, tile_from_index}
 use Rattle.tiling_laws.proofs.Ancestors.{ancestor_of_ancestor, ancestor_index}
 use Rattle.tiling_laws.proofs.Rising.{in_filtered}
 use Rattle.tile_occupancy.specs.Occupied.{is_same, tiles_of}
-use Rattle.build_laws.specs.Made.{tile_in, is_child_root, child_roots, child_place, child_bits}
+use Rattle.build_laws.specs.Made.{tile_in, is_child_root, child_roots, child_bits}
 use Rattle.build_laws.proofs.Bits.{into_map, from_map, child_says, child_from}
 use Rattle.build_laws.proofs.Under.{same_says, same_from}
 

@@ -1,22 +1,21 @@
 -- Each made subtree is one of its layout, and breaks no rule between its bits.
-use Rattle.std.proofs.Common.{◌≡◌, ℕ, zero, suc, ◌+◌, ◌-◌, ◌/◌, ◌^◌, ◌<◌, ◌≤◌, Bool, true, false, List, refl, sym, ap, subst, ◌∙◌, arith, length, map}
-use Rattle.std.specs.Prelude.{◌&&◌, not, nat_lt}
-use Rattle.std.specs.List.{All, Contains, list_any, range_with_len, filter}
+use Rattle.std.proofs.Common.{◌≡◌, ℕ, zero, suc, ◌+◌, ◌-◌, ◌/◌, ◌^◌, ◌<◌, ◌≤◌, Bool, true, false, List, refl, ap, subst, ◌∙◌, arith, length, map}
+use Rattle.std.specs.Prelude.{◌&&◌, not}
+use Rattle.std.specs.List.{Contains, list_any, range_with_len, filter}
 use Rattle.std.proofs.lemmas.Bool.{and_parts, and_from, lt-ltb, ltb-true, not_from_true, false_from_ne_true, both_ways, eqb-true}
 use Rattle.std.proofs.lemmas.List.Elements.{All-map, Contains-get_or}
 use Rattle.std.proofs.lemmas.List.Folds.{Any-from_list_any, list_any_none}
 use Rattle.std.proofs.lemmas.List.FromFn.{length-map-range_with_len}
 use Rattle.implicit_tiling.specs.declared.Scheme.{Scheme}
-use Rattle.implicit_tiling.specs.Tile.{Tile, branching, parent}
+use Rattle.implicit_tiling.specs.Tile.{Tile, branching}
 use Rattle.implicit_tiling.specs.Scene.{Layout}
 use Rattle.implicit_tiling.specs.Availability.{local_level, nodes_above, place}
-use Rattle.implicit_tiling.specs.Subtree.{Subtree, IsSubtree, IsOf, bit_at, is_kept, node_bit, has_tile, some_node, has_orphan, has_content_alone, node_count}
+use Rattle.implicit_tiling.specs.Subtree.{IsSubtree, bit_at, is_kept, node_bit, has_tile, some_node, has_orphan, has_content_alone, node_count}
 use Rattle.walk_laws.proofs.Lists.{of_range}
 use Rattle.walk_laws.proofs.Runs.{below, below_level}
 use Rattle.walk_laws.proofs.Plain.{below_parent, parent_fits}
 use Rattle.walk_laws.proofs.Children.{IsStart, start_of}
-use Rattle.subtree_write.specs.Reading.{KeepsRules}
-use Rattle.tile_occupancy.specs.Occupied.{tiles_of, IsOccupancy}
+use Rattle.tile_occupancy.specs.Occupied.{tiles_of}
 use Rattle.build_laws.specs.Made.{tile_in, under, has_content, node_bits, child_roots, child_place, made_subtree, made_roots}
 use Rattle.build_laws.specs.Holds.{AreWordsOf}
 use Rattle.build_laws.specs.Laws.{IsMadeWell, MadeSubtreesAreGood}

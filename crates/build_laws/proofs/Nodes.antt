@@ -13,9 +13,9 @@ use Rattle.walk_laws.proofs.Runs.{below, below_is_tile}
 use Rattle.walk_laws.proofs.Segments.{below_root}
 use Rattle.walk_laws.proofs.Plain.{below_place}
 use Rattle.walk_laws.proofs.Children.{IsStart}
-use Rattle.tile_occupancy.specs.Occupied.{is_same, tiles_of}
+use Rattle.tile_occupancy.specs.Occupied.{tiles_of}
 use Rattle.build_laws.specs.Made.{tile_in, is_under, under, node_bits}
-use Rattle.build_laws.proofs.Bits.{IsFrom, into_map, from_map, node_says, node_from}
+use Rattle.build_laws.proofs.Bits.{into_map, from_map, node_says, node_from}
 use Rattle.build_laws.proofs.Under.{same_says, same_from}
 
 -- one of the words, whose tile is in the subtree of r and has place i
