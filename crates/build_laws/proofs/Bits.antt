@@ -11,7 +11,8 @@ use Rattle.implicit_tiling.specs.Availability.{place}
 use Rattle.implicit_tiling.specs.Subtree.{bit_at, node_count, child_count}
 use Rattle.tiling_laws.proofs.Rising.{none_in_nil, contains_first, contains_later, contains_cases}
 use Rattle.tiling_laws.proofs.Places.{place_below, within_level}
-use Rattle.build_laws.specs.Made.{bits_at, tile_in, node_bits, child_place, child_bits}
+use Rattle.bitstream.specs.Bits.{bits_of_places}
+use Rattle.build_laws.specs.Made.{tile_in, node_bits, child_place, child_bits}
 
 -- what a function gives of an element is in the list of what it gives
 pub into_map : {X Y : Type 0} (f : X → Y) (xs : List X) (x : X) → Contains xs x → Contains (map f xs) (f x)
@@ -39,21 +40,21 @@ from_map f [] y there = absurd (none_in_nil y there)
 from_map f (x ∷ xs) y there = from_first f x xs y (contains_cases (f x) (map f xs) y there) (from_map f xs y)
 
 -- a bit is 1 where its place is one of those given
-pub length-bits_at : (count : ℕ) (places : List ℕ) → length (bits_at count places) ≡ count
-length-bits_at count places = length-map-range_with_len (λ i. list_any (λ p. p == i) places) 0 count
+pub length-bits_of_places : (count : ℕ) (places : List ℕ) → length (bits_of_places count places) ≡ count
+length-bits_of_places count places = length-map-range_with_len (λ i. list_any (λ p. p == i) places) 0 count
 
-bit_is : (count : ℕ) (places : List ℕ) (i : ℕ) → i < count → bit_at (bits_at count places) i ≡ list_any (λ p. p == i) places
+bit_is : (count : ℕ) (places : List ℕ) (i : ℕ) → i < count → bit_at (bits_of_places count places) i ≡ list_any (λ p. p == i) places
 bit_is count places i low = get_or-map-range_with_len (λ j. list_any (λ p. p == j) places) 0 count i i false low (zero-add i)
 
-pub bit_says : (count : ℕ) (places : List ℕ) (i : ℕ) → bit_at (bits_at count places) i ≡ true → Contains places i
+pub bit_says : (count : ℕ) (places : List ℕ) (i : ℕ) → bit_at (bits_of_places count places) i ≡ true → Contains places i
 bit_says count places i one =
     elim (cases_lt i count) [
       | inl low ↦ let some = Any-from_list_any (λ p. p == i) places (sym (bit_is count places i low) ∙ one) in
           subst (Contains places) (eqb-true some.1 i some.4) (some.0, some.2, some.3)
-      | inr past ↦ absurd (both_ways (bit_at (bits_at count places) i) (get_or_past (bits_at count places) i false (omega (arith, past, length-bits_at count places))) one)
+      | inr past ↦ absurd (both_ways (bit_at (bits_of_places count places) i) (get_or_past (bits_of_places count places) i false (omega (arith, past, length-bits_of_places count places))) one)
     ]
 
-pub bit_from : (count : ℕ) (places : List ℕ) (i : ℕ) → i < count → Contains places i → bit_at (bits_at count places) i ≡ true
+pub bit_from : (count : ℕ) (places : List ℕ) (i : ℕ) → i < count → Contains places i → bit_at (bits_of_places count places) i ≡ true
 bit_from count places i low there = bit_is count places i low ∙ list_any_at (λ p. p == i) places there.0 i there.1 (eq-eqb _ i there.2)
 
 -- the bits of nodes and of child subtrees

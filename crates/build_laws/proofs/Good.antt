@@ -19,7 +19,7 @@ use Rattle.tile_occupancy.specs.Occupied.{tiles_of}
 use Rattle.build_laws.specs.Made.{tile_in, under, has_content, node_bits, child_roots, child_place, made_subtree, made_roots}
 use Rattle.build_laws.specs.Holds.{AreWordsOf}
 use Rattle.build_laws.specs.Laws.{IsMadeWell, MadeSubtreesAreGood}
-use Rattle.build_laws.proofs.Bits.{from_map, length-bits_at}
+use Rattle.build_laws.proofs.Bits.{from_map, length-bits_of_places}
 use Rattle.build_laws.proofs.Under.{parent_there, IsMadeRoot, made_is}
 use Rattle.build_laws.proofs.Nodes.{fewer_bits, tile_of_node, node_of_tile}
 
@@ -97,11 +97,11 @@ within_limits layout words r are is =
       root_below_cut = is.low;
       root_is_tile = is.tile;
       few_contents = omega (arith, are.limits.few_contents, length-map-range_with_len of_content 0 count);
-      tile_bits = length-bits_at nodes (map (λ w. place layout (tile_in layout w)) (under layout r words));
+      tile_bits = length-bits_of_places nodes (map (λ w. place layout (tile_in layout w)) (under layout r words));
       content_bits = All-map (λ bits. length bits ≡ nodes) of_content (range_with_len 0 count)
           (of_range (λ c. length (of_content c) ≡ nodes) 0 count
-          (λ c low high. length-bits_at nodes (map (λ w. place layout (tile_in layout w)) (filter (has_content c) (under layout r words)))));
-      child_bits = length-bits_at (branching layout.scheme ^ layout.subtree_levels) (map (child_place layout) (child_roots layout r words));
+          (λ c low high. length-bits_of_places nodes (map (λ w. place layout (tile_in layout w)) (filter (has_content c) (under layout r words)))));
+      child_bits = length-bits_of_places (branching layout.scheme ^ layout.subtree_levels) (map (child_place layout) (child_roots layout r words));
     }
 
 pub made_well : (layout : Layout) (words : List ℕ) (r : Tile) → AreWordsOf layout words → IsMadeRoot layout r → IsMadeWell layout words r

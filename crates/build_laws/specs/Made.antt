@@ -2,7 +2,8 @@
 -- implicit tiling: subtrees, tile availability, content availability, child subtree availability; which roots have a file
 -- is this project's own).
 use Rattle.std.specs.Prelude.{ℕ, ◌%◌, ◌/◌, ◌^◌, ◌&&◌, ◌==◌, nat_lt, Bool, List, [], ◌∷◌, length, map, filter}
-use Rattle.std.specs.List.{list_any, range_with_len}
+use Rattle.std.specs.List.{range_with_len}
+use Rattle.bitstream.specs.Bits.{bits_of_places}
 use Rattle.implicit_tiling.specs.Files.{Files}
 use Rattle.implicit_tiling.specs.Tile.{Tile, branching, root, parent, index}
 use Rattle.implicit_tiling.specs.Scene.{Layout}
@@ -12,10 +13,6 @@ use Rattle.implicit_tiling.specs.Code.{word_tile, word_mask}
 use Rattle.implicit_tileset.specs.Scene.{subtree_name}
 use Rattle.subtree_write.specs.Canonical.{canonical}
 use Rattle.tile_occupancy.specs.Occupied.{is_same, tiles_of}
-
--- so many bits, of which those at some places are 1
-abbrev pub bits_at : ℕ → List ℕ → List Bool
-bits_at count places = map (λ i. list_any (λ p. p == i) places) (range_with_len 0 count)
 
 -- the tile of a word in a layout
 abbrev pub tile_in : Layout → ℕ → Tile
@@ -41,13 +38,13 @@ has_content c w = word_mask w / 2 ^ c % 2 == 1
 
 -- a bit for each node of a subtree, and for each child subtree
 abbrev pub node_bits : Layout → List ℕ → List Bool
-node_bits layout words = bits_at (node_count layout.scheme layout.subtree_levels) (map (λ w. place layout (tile_in layout w)) words)
+node_bits layout words = bits_of_places (node_count layout.scheme layout.subtree_levels) (map (λ w. place layout (tile_in layout w)) words)
 
 abbrev pub child_place : Layout → ℕ → ℕ
 child_place layout w = index layout.scheme (tile_in layout w) % branching layout.scheme ^ layout.subtree_levels
 
 abbrev pub child_bits : Layout → List ℕ → List Bool
-child_bits layout words = bits_at (child_count layout.scheme layout.subtree_levels) (map (child_place layout) words)
+child_bits layout words = bits_of_places (child_count layout.scheme layout.subtree_levels) (map (child_place layout) words)
 
 -- the subtree of a root: the tiles in it, their contents, and the subtrees right below it
 abbrev pub made_subtree : Layout → List ℕ → Tile → Subtree

@@ -6,7 +6,7 @@ use Rattle.std.proofs.lemmas.List.Folds.{list_any-append}
 use Rattle.std.proofs.Math.Bool.{and-true}
 use Rattle.std.proofs.lemmas.Bool.{and_right}
 use Rattle.walk_laws.proofs.Lists.{map_same}
-use Rattle.build_laws.specs.Made.{bits_at}
+use Rattle.bitstream.specs.Bits.{bits_of_places}
 
 abbrev pub AreAlike : List ℕ → List ℕ → Type 0
 AreAlike xs ys = (q : ℕ → Bool) → list_any q xs ≡ list_any q ys
@@ -75,7 +75,7 @@ filters_alike p test ls ws same q =
 pub filter_alike : (test : ℕ → Bool) (xs ys : List ℕ) → AreAlike xs ys → AreAlike (filter test xs) (filter test ys)
 filter_alike test xs ys alike q = list_any-filter q test xs ∙ alike (λ x. test x && q x) ∙ sym (list_any-filter q test ys)
 
-pub bits_alike : (count : ℕ) (f : ℕ → ℕ) (xs ys : List ℕ) → AreAlike xs ys → bits_at count (map f xs) ≡ bits_at count (map f ys)
+pub bits_alike : (count : ℕ) (f : ℕ → ℕ) (xs ys : List ℕ) → AreAlike xs ys → bits_of_places count (map f xs) ≡ bits_of_places count (map f ys)
 bits_alike count f xs ys alike =
     let one = λ (i : ℕ). list_any-map (λ p. p == i) f xs ∙ alike (λ x. f x == i) ∙ sym (list_any-map (λ p. p == i) f ys) in
     map_same (λ i. list_any (λ p. p == i) (map f xs)) (λ i. list_any (λ p. p == i) (map f ys)) (range_with_len 0 count)

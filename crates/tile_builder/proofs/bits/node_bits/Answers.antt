@@ -2,7 +2,8 @@ use Rattle.std.proofs.Common.{◌≡◌, List, ℕ, length, map, sym, ap, subst,
 use Rattle.std.specs.Prelude.{IfOk}
 use Rattle.implicit_tiling.specs.Scene.{Layout}
 use Rattle.implicit_tiling.specs.Availability.{place, nodes_above}
-use Rattle.build_laws.specs.Made.{bits_at, tile_in}
+use Rattle.bitstream.specs.Bits.{bits_of_places}
+use Rattle.build_laws.specs.Made.{tile_in}
 use Rattle.tile_builder.proofs.Nodes.{places_are_nodes, all_made}
 use Rattle.tile_builder.proofs.bits.node_bits.Goals as goal
 
@@ -19,5 +20,5 @@ returns c =
     let f = λ (w : ℕ). place c.args.layout.now (tile_in c.args.layout.now w) in
     let places = all_made f c.args.words.now c.loop-word.word-index c.deref.result.now c.loop-word.places.items c.deref.ensures.value c.loop-word.invariant c.loop-word-test.false in
     let count = c.nodes_above.ensures ∙ ap (λ (l : Layout). nodes_above l.scheme l.subtree_levels) c.layout.view_is in
-    subst (λ n. IfOk c.of_places.result (λ bits. bits ≡ bits_at n (map f c.args.words.now))) count
-    (subst (λ ps. IfOk c.of_places.result (λ bits. bits ≡ bits_at c.nodes_above.result ps)) places c.of_places.ensures)
+    subst (λ n. IfOk c.of_places.result (λ bits. bits ≡ bits_of_places n (map f c.args.words.now))) count
+    (subst (λ ps. IfOk c.of_places.result (λ bits. bits ≡ bits_of_places c.nodes_above.result ps)) places c.of_places.ensures)
