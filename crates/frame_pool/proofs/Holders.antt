@@ -1,16 +1,12 @@
 -- The frame that has a key, as it was read.
-use Rattle.std.proofs.Common.{◌≡◌, ◌∙◌, ℕ, Bool, true, eqb, List, ◌++◌, length, take, drop, get_or, position, count_by, Some, None, refl, sym, ap, subst, append-nil}
+use Rattle.std.proofs.Common.{◌≡◌, ◌∙◌, ℕ, Bool, true, List, get_or, position, Some, None, refl, sym, ap, subst}
 use Rattle.std.specs.List.{slice_get}
-use Rattle.std.proofs.lemmas.List.Sums.{length-filter}
-use Rattle.std.proofs.lemmas.List.Sorted.{length_permutation}
 use Rattle.std.proofs.lemmas.Option.{get_or_from_slice_get}
 use Rattle.std.proofs.lemmas.Bool.{false≢true}
-use Rattle.std.proofs.Math.Seq.{take-length, drop-length}
 use Rattle.frame_pool.specs.declared.frame.FrameState.{FrameState}
 use Rattle.frame_pool.specs.declared.frame.FrameState.TheVariants.{Empty, Loading, Ready}
 use Rattle.frame_pool.specs.States.{has_key}
-use Rattle.frame_pool.specs.Moves.{NoneHas, asked_last}
-use Rattle.frame_pool.proofs.Fronts.{permutation-asked_last}
+use Rattle.frame_pool.specs.Moves.{NoneHas}
 use Rattle.frame_pool.proofs.Places.{position-at, none-at}
 
 module _ {K : Type 0} (eq : K → K → Bool) (key : K) (census seen : List (FrameState K)) where

@@ -1,7 +1,7 @@
 //! Which frame each key was last given, noted in a map, so that a key is found without a look at each frame.
 //!
-//! A note may be stale: the census says whether the frame still has the key. A stale note goes when there is no more
-//! room in the map, which is then filled anew. It doesn't go before, since a removal doesn't promise to leave more room.
+//! A note may be stale: the census says whether the frame still has the key. Stale notes stay until there is no more room
+//! in the map, which is then filled anew, since the removal of a single note need not leave room for another.
 ghost use Rattle.std.specs.Prelude.{◌≡◌, ℕ, ◌+◌, ◌<◌, ◌≤◌, cond, length, position, slice_set, Some};
 ghost use Rattle.std.specs.HashMap.{get, spare, hash_map_len};
 ghost use Rattle.frame_pool.specs.States.{has_key};

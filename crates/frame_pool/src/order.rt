@@ -1,7 +1,6 @@
 //! The order of the frames, the last asked first.
 ghost use Rattle.std.specs.Prelude.{◌≡◌, ◌≤◌, ℕ, eqb, count_by, length, IfOk};
 ghost use Rattle.std.specs.List.{range_with_len};
-ghost use Rattle.std.specs.NonZero.{non_zero_usize_get};
 ghost use Rattle.std.specs.Iterator.{at_most};
 ghost use Rattle.std.specs.Map.Iter.{TakesFirst, TakesLast, GivesInOrder, GivesInReverse};
 ghost use Rattle.frame_pool.specs.Moves.{asked_last};
@@ -27,13 +26,16 @@ impl Model for FrameOrder {
 }
 
 impl FrameOrder {
-    // The frames below the number, each after the one before it.
-    pub(crate) fn new(alloc: Global, frames: NonZeroUsize) -> Result<FrameOrder, AllocError>
-        requires { non_zero_usize_get frames ≤ 1024 }
-        ensures { IfOk result (λ order. order ≡ range_with_len 0 (non_zero_usize_get frames)) }
+    // This many frames, in the order of their numbers.
+    pub(crate) fn new(alloc: Global, frames: usize) -> Result<FrameOrder, AllocError>
+        requires { (1 ≤ frames) × (frames ≤ 1024) }
+        ensures { IfOk result (λ order. order ≡ range_with_len 0 frames) }
     {
-        let mut order = LruCache::new(alloc, frames)?;
-        for frame in (0..frames.get()).rev() {
+        let Some(capacity) = NonZeroUsize::new(frames) else {
+            unreachable!()
+        };
+        let mut order = LruCache::new(alloc, capacity)?;
+        for frame in (0..frames).rev() {
             order.put(frame as u32, ())?;
         }
         Ok(FrameOrder { frames: order })
@@ -83,10 +85,6 @@ impl<'a> Iterator for Order<'a> {
     fn next(&mut self) -> Option<u32> {
         let (frame, _) = self.frames.next()?;
         Some(*frame)
-    }
-
-    fn size_hint(&self) -> (usize, Option<usize>) {
-        self.frames.size_hint()
     }
 }
 

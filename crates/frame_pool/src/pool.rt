@@ -17,7 +17,6 @@ use std::alloc::{AllocError, Global};
 use std::collections::HashMap;
 use std::hash::Hash;
 use std::marker::Model;
-use std::num::NonZeroUsize;
 
 /// Frames for values with keys, of which each value stands in one frame and stays there while it is pinned.
 #[derive(Drop)]
@@ -25,7 +24,7 @@ pub struct Pool<K: Copy + Eq + Hash, V: Drop> {
     census: Vec<FrameState<K>>,
     values: Vec<Option<V>>,
     order: FrameOrder,
-    // The frame that each key was last given.
+    // Of each key, the frame that it was given last.
     notes: HashMap<K, u32>,
     // No frame below it is empty.
     least_empty: usize,
@@ -49,14 +48,11 @@ impl<K: Copy + Eq + Hash, V: Drop> Pool<K, V> {
         requires { (1 ≤ frames) × (frames ≤ 1024) }
         ensures { IfOk result (λ pool. pool ≡ empty_frames frames) }
     {
-        let Some(count) = NonZeroUsize::new(frames) else {
-            unreachable!()
-        };
         Ok(Pool {
             census: empty_states(alloc, frames)?,
             values: no_values(alloc, frames)?,
-            order: FrameOrder::new(alloc, count)?,
-            // Room for as many notes again, so that they are seldom made anew.
+            order: FrameOrder::new(alloc, frames)?,
+            // Twice the room that the frames need, so that the notes are seldom made anew.
             notes: HashMap::with_capacity(alloc, 2 * frames)?,
             least_empty: 0,
         })

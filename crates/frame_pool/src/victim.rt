@@ -7,8 +7,8 @@ ghost use Rattle.frame_pool.specs.Finding.{NoneEmptyBelow};
 use crate::frame::FrameState;
 use crate::order::FrameOrder;
 
-/// The frame that is given up for a new key. No frame below `least_empty` is empty, and this number rises to that of
-/// the least empty frame, so that many calls together look at each frame once.
+/// The frame that is given up for a new key. No frame below `least_empty` is empty. This number rises to that of the
+/// least empty frame, so that no later call looks at the frames below it.
 pub(crate) fn victim<K: Copy + Eq>(
     census: &[FrameState<K>],
     order: &FrameOrder,

@@ -1,16 +1,14 @@
-use Rattle.std.proofs.Common.{◌≡◌, ◌∙◌, suc, ℕ, ◌+◌, ◌-◌, ◌<◌, eqb, refl, sym, ap, subst, arith}
+use Rattle.std.proofs.Common.{◌≡◌, ◌∙◌, suc, ℕ, ◌+◌, ◌-◌, ◌<◌, sym, ap, subst, arith}
 use Rattle.std.specs.List.{range_with_len}
 use Rattle.std.specs.Map.{keys_of}
-use Rattle.std.specs.NonZero.{non_zero_usize_get}
 use Rattle.frame_pool.proofs.Linked.{keys-put}
 use Rattle.frame_pool.proofs.order.FrameOrder.new.Goals as goal
 
 pub loop-frame-preserved : goal.loop-frame-preserved
 loop-frame-preserved c =
-    let n = non_zero_usize_get c.args.frames in
+    let n = c.args.frames in
     let i = c.loop-frame.frame in
     let most = c.loop-frame.auto.frame in
-    let all = c.get-frame.ensures.value in
     let next : i ≡ i - 1 + 1 = omega arith in
     let more : suc (n - i) ≡ n - (i - 1) = omega arith in
     let room : n - i < c.loop-frame.order.cap = subst (λ (k : ℕ). n - i < k) (sym c.loop-frame.invariant.cap) (omega arith) in

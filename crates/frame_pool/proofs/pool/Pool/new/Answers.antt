@@ -1,5 +1,4 @@
-use Rattle.std.proofs.Common.{ℕ, List, Option, None, replicate, ◌∙◌, sym, ap, subst, arith}
-use Rattle.std.specs.List.{range_with_len}
+use Rattle.std.proofs.Common.{ℕ, List, Option, None, replicate, sym, subst, arith}
 use Rattle.frame_pool.specs.declared.frame.FrameState.{FrameState}
 use Rattle.frame_pool.specs.declared.frame.FrameState.TheVariants.{Empty}
 use Rattle.frame_pool.specs.Finding.{IsKept, HasRoom}
@@ -14,5 +13,5 @@ invariant_of-result g c =
     let room : HasRoom n notes = omega arith in
     subst (λ (states : List (FrameState g.row.K.Denot)). IsKept g.K.PartialEq.eq states c.in_ok-no_values.field-0.items c.in_ok-new.field-0 notes 0) (sym c.in_ok-empty_states.ensures)
     (subst (λ (values : List (Option g.row.V.Denot)). IsKept g.K.PartialEq.eq (replicate n Empty) values c.in_ok-new.field-0 notes 0) (sym c.in_ok-no_values.ensures)
-    (subst (λ (order : List ℕ). IsKept g.K.PartialEq.eq (replicate n Empty) (replicate n None) order notes 0) (sym (c.in_ok-new.ensures ∙ ap (range_with_len 0) c.in-Some.ensures))
+    (subst (λ (order : List ℕ). IsKept g.K.PartialEq.eq (replicate n Empty) (replicate n None) order notes 0) (sym c.in_ok-new.ensures)
     (kept-empty g.K.PartialEq.eq n c.requires.0 c.requires.1 notes room)))
