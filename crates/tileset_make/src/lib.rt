@@ -2,6 +2,7 @@
 //! in memory and surveyed.
 #![tactic(auto)]
 
+mod layout;
 mod recipe;
 
 pub use recipe::Recipe;
