@@ -31,11 +31,11 @@ at_most : (b : Bool) (n : ℕ) → (if b then n else 0) ≤ n
 at_most true n = omega arith
 at_most false n = omega arith
 
-mask_below : (c level : ℕ) → contents_mask c level < 2 ^ c
+pub mask_below : (c level : ℕ) → contents_mask c level < 2 ^ c
 mask_below zero level = lit< tt
 mask_below (suc c) level = omega (arith, mask_below c level, at_most (level % suc c == 0) (2 ^ c), pow-suc 2 c)
 
-mask_fits : (c level : ℕ) → c ≤ most_contents → contents_mask c level < 2 ^ 8
+pub mask_fits : (c level : ℕ) → c ≤ most_contents → contents_mask c level < 2 ^ 8
 mask_fits c level few = let most : 2 ^ c ≤ 2 ^ 8 = pow-le-pow_right (lit< tt) few in omega (arith, mask_below c level, most)
 
 -- what the code hands over

@@ -4,3 +4,5 @@ pub mod Rows
 pub mod Lines
 pub mod Points
 pub mod Generated
+pub mod Same
+pub mod Exact

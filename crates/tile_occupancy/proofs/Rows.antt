@@ -1,11 +1,12 @@
--- The definitions on worked lists of words: the root, and the first tile of level 1.
-use Rattle.std.proofs.Common.{◌≡◌, ℕ, ◌<◌, ◌^◌, ◌*◌, [], ◌∷◌, refl, ap, subst, arith, lit<, inl, inr}
+-- The definitions on worked lists of words: the root, the first tile of level 1, and the words of points.
+use Rattle.std.proofs.Common.{◌≡◌, ℕ, ◌<◌, ◌^◌, ◌*◌, ◌+◌, [], ◌∷◌, refl, ap, subst, arith, lit<, inl, inr}
 use Rattle.std.specs.Prelude.{slice_index_or}
 use Rattle.std.proofs.lemmas.List.Elements.{All-cons, All-nil}
-use Rattle.implicit_tiling.specs.declared.Scheme.TheVariants.{Quad}
+use Rattle.implicit_tiling.specs.declared.Scheme.TheVariants.{Quad, Oct}
 use Rattle.implicit_tiling.specs.Tile.{Tile, root, parent}
 use Rattle.implicit_tiling.specs.Code.{word_tile}
 use Rattle.tile_occupancy.specs.Occupied.{IsWordBelow, HasParent, IsOccupancy, tiles_of}
+use Rattle.tile_occupancy.specs.Generated.{generated_words}
 use Rattle.tile_occupancy.specs.Faults.{IsFirstFault}
 use Rattle.tile_occupancy.specs.declared.occupancy.OccupancyFault.TheVariants.{BadWord, Order, ParentMissing}
 use Rattle.tile_occupancy.proofs.Keys.{apart}
@@ -46,3 +47,11 @@ the_root_alone = record {
   rise = λ i j d low within. absurd (omega (arith, low, within));
   have_parents = All-cons (HasParent (tiles_of Quad (0 ∷ []))) root [] (inl refl) (All-nil (HasParent (tiles_of Quad (0 ∷ []))));
 }
+
+-- two points and their ancestors, with a content on each tile: (0, 0, 0), (1, 0, 1), (2, 0, 2) and (2, 1, 3)
+pub words_of_two_points : generated_words Quad 3 1 2 1 ≡ 2 ^ 51 ∷ (2 ^ 59 + 2 ^ 51 + 2) ∷ (2 * 2 ^ 59 + 2 ^ 51 + 8) ∷ (2 * 2 ^ 59 + 2 ^ 51 + 11) ∷ []
+words_of_two_points = refl
+
+-- a point with a depth, and two contents: both stand on the root, and the first on (1, 1, 1, 1)
+pub words_of_a_point_with_a_depth : generated_words Oct 2 2 1 5 ≡ (3 * 2 ^ 51) ∷ (2 ^ 59 + 2 ^ 51 + 7) ∷ []
+words_of_a_point_with_a_depth = refl

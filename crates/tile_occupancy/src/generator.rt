@@ -1,8 +1,10 @@
 // Generated tilesets.
 ghost use Rattle.std.specs.Prelude.{◌≡◌, ◌<◌, ◌≤◌, ◌%◌, ◌^◌, ◌+◌, ◌++◌, IfOk};
+ghost use Rattle.std.specs.List.{All};
+ghost use Rattle.implicit_tiling.specs.Code.{word_mask};
 ghost use Rattle.implicit_tiling.specs.Limits.{most_levels, most_contents};
 ghost use Rattle.implicit_tiling.specs.Tile.{IsTile, ancestor as ancestor_of};
-ghost use Rattle.tile_occupancy.specs.Generated.{AreGenerated, HasLines, line_words, point as point_of, contents_mask as contents_mask_of};
+ghost use Rattle.tile_occupancy.specs.Generated.{AreGenerated, HasLines, generated_words, line_words, point as point_of, contents_mask as contents_mask_of};
 
 use crate::occupancy::Occupancy;
 use availability::word_of;
@@ -20,7 +22,7 @@ const Z_STEP: u64 = 20_011;
 /// Content c stands on each tile whose level is a multiple of c + 1.
 ///
 /// The scheme's limit holds for `levels`, from 1 on, and there are at most 8 contents. An error is want of memory: the
-/// words of each point's ancestors are in memory at once.
+/// words of each point's ancestors are in memory at once, and are sorted once.
 pub fn generate(
     alloc: Global,
     scheme: Scheme,
@@ -35,6 +37,8 @@ pub fn generate(
     ensures scheme { IfOk result (λ o. o.scheme ≡ scheme) }
     ensures levels { IfOk result (λ o. o.levels ≡ levels) }
     ensures words { IfOk result (λ o. AreGenerated scheme levels contents points number o.words) }
+    ensures list { IfOk result (λ o. o.words ≡ generated_words scheme levels contents points number) }
+    ensures masks { IfOk result (λ o. All (λ w. word_mask w < 2 ^ contents) o.words) }
 {
     let mut words = all_lines(alloc, scheme, levels, contents, points, number)?;
     words.sort_unstable();

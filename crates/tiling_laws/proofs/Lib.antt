@@ -7,3 +7,4 @@ pub mod Subtrees
 pub mod Available
 pub mod Walk
 pub mod Places
+pub mod Rising

@@ -1,5 +1,5 @@
 -- The order of tiles by their keys, and the list of all tiles (this project's own).
-use Rattle.std.specs.Prelude.{◌≡◌, ℕ, ◌≤◌, ◌↔◌, ◌⊎◌, true, false}
+use Rattle.std.specs.Prelude.{◌≡◌, ℕ, ◌≤◌, ◌↔◌, ◌⊎◌, true, false, List}
 use Rattle.std.specs.List.{AllPairs, Contains}
 use Rattle.implicit_tiling.specs.declared.Scheme.{Scheme}
 use Rattle.implicit_tiling.specs.Tile.{Tile, IsTile, is_key_below, all_tiles}
@@ -20,3 +20,9 @@ KeysRise = (scheme : Scheme) (last : ℕ) → AllPairs (λ t u. is_key_below sch
 -- the list has each tile of the levels 0 to last, and nothing else
 abbrev pub AllTilesAreThere : Type 0
 AllTilesAreThere = (scheme : Scheme) (last : ℕ) (t : Tile) → Contains (all_tiles scheme last) t ↔ (IsTile scheme t × (t.level ≤ last))
+
+-- two lists whose keys rise, and which have the same tiles, are one list
+abbrev pub RisingListsAreOne : Type 0
+RisingListsAreOne = (scheme : Scheme) (one other : List Tile)
+    → AllPairs (λ t u. is_key_below scheme t u ≡ true) one → AllPairs (λ t u. is_key_below scheme t u ≡ true) other
+    → ((t : Tile) → Contains one t ↔ Contains other t) → one ≡ other
