@@ -1,5 +1,5 @@
 //! What follows for files that are made of given tiles: the files hold these tiles and no others, each with its contents.
-//! Each law is the contract of a function that does nothing.
+//! Each law is the contract of a function that does nothing, and a lemma of `proofs/` to cite.
 #![tactic(auto)]
 
 ghost use Rattle.build_laws.specs.Laws.{MadeSubtreesAreGood, MadeFilesHoldTheTiles, AllTilesAreTheAnswer};
