@@ -27,7 +27,7 @@ StandsAt name (pair ∷ rest) (suc at) = (pair.0 ≢ name) × StandsAt name rest
 bytes_same : (a : List ℕ) → bytes_eq a a ≡ true
 bytes_same a = (bytes_eq-Decides a a).1 refl
 
-bytes_differ : (a b : List ℕ) (r : Bool) → bytes_eq a b ≡ r → a ≢ b → r ≡ false
+pub bytes_differ : (a b : List ℕ) (r : Bool) → bytes_eq a b ≡ r → a ≢ b → r ≡ false
 bytes_differ a b true e ne = absurd (ne ((bytes_eq-Decides a b).0 e))
 bytes_differ a b false e ne = refl
 
@@ -38,14 +38,14 @@ pub file-later : (other name bytes : List ℕ) (rest : Files) → name ≢ other
 file-later other name bytes rest ne = rw (bytes_differ name other (bytes_eq name other) refl ne) refl
 
 -- the look-up of a file whose first pair has another name, or that name
-found_later : (other : List ℕ) (pair : List ℕ × List ℕ) (rest : Files) → pair.0 ≢ other → file other (pair ∷ rest) ≡ file other rest
+pub found_later : (other : List ℕ) (pair : List ℕ × List ℕ) (rest : Files) → pair.0 ≢ other → file other (pair ∷ rest) ≡ file other rest
 found_later other pair rest ne = rw (bytes_differ pair.0 other (bytes_eq pair.0 other) refl ne) refl
 
-found_same : (name : List ℕ) (pair : List ℕ × List ℕ) (rest : Files) → pair.0 ≡ name → file name (pair ∷ rest) ≡ Some pair.1
+pub found_same : (name : List ℕ) (pair : List ℕ × List ℕ) (rest : Files) → pair.0 ≡ name → file name (pair ∷ rest) ≡ Some pair.1
 found_same name pair rest e = rw ((bytes_eq-Decides pair.0 name).1 e) refl
 
 -- a pair before files among which the name isn't found has another name
-other_name : (name : List ℕ) (pair : List ℕ × List ℕ) (rest : Files) → IsNone (file name (pair ∷ rest)) → pair.0 ≢ name
+pub other_name : (name : List ℕ) (pair : List ℕ × List ℕ) (rest : Files) → IsNone (file name (pair ∷ rest)) → pair.0 ≢ name
 other_name name pair rest none e = let found : true ≡ false = sym (ap is_some (found_same name pair rest e)) ∙ none in cc
 
 -- two lists that begin with one pair are looked up alike where their rests are

@@ -1,6 +1,11 @@
--- Files as values: pairs of a name and bytes in memory, and that no name stands there twice (this project's own).
-use Rattle.std.specs.Prelude.{ℕ, List, [], ◌∷◌, IsNone, map, String, string_bytes, Vec}
+-- Files as values: pairs of a name and bytes in memory, that no name stands there twice, and lists of files in which the
+-- same is found (this project's own).
+use Rattle.std.specs.Prelude.{ℕ, ◌≡◌, List, [], ◌∷◌, IsNone, map, String, string_bytes, Vec}
 use Rattle.std.specs.declared.alloc.Global.{Global}
+use Rattle.std.specs.Cmp.Lexicographic.{slice_cmp}
+use Rattle.std.specs.List.Sorted.{IsStrictlySortedBy}
+use Rattle.std.specs.Map.{keys_of}
+use Rattle.std.specs.Ordering.{nat_cmp}
 use mathlib.Core.HLevel.{×_prop, Unit-prop}
 use Rattle.std.proofs.Math.Bool.{Bool-set}
 use Rattle.implicit_tiling.specs.Files.{Files, file}
@@ -13,6 +18,14 @@ HasDistinctNames (pair ∷ rest) = IsNone (file pair.0 rest) × HasDistinctNames
 pub HasDistinctNames-prop : (files : Files) → IsProp (HasDistinctNames files)
 HasDistinctNames-prop [] = Unit-prop
 HasDistinctNames-prop (pair ∷ rest) = ×_prop (Bool-set _ _) (HasDistinctNames-prop rest)
+
+-- under every name the same is found
+abbrev pub HaveSameFiles : Files → Files → Type 0
+HaveSameFiles these those = (name : List ℕ) → file name these ≡ file name those
+
+-- each name is less than those behind it, byte by byte
+abbrev pub IsSortedByName : Files → Type 0
+IsSortedByName files = IsStrictlySortedBy (slice_cmp nat_cmp) (keys_of files)
 
 -- the files that a vector of texts and bytes holds
 abbrev pub files_of : List (String Global × Vec ℕ Global) → Files

@@ -1,10 +1,10 @@
 // A source of files in memory, which fails at chosen fetches.
 ghost use Rattle.std.specs.Prelude.{◌≡◌, ◌≤◌, ◌≢◌, ◌↔◌, [], Some, IfSome, IsSome, vec_len};
-ghost use Rattle.implicit_tiling.specs.Files.{file};
+ghost use Rattle.std.specs.Option.{option_copied};
 ghost use Rattle.scene_ports.specs.Files.{files_of, HasDistinctNames, HasDistinctNames-prop};
 ghost use Rattle.scene_ports.specs.Source.{Answers};
 
-use crate::pairs::has_distinct_names;
+use crate::pairs::{find, has_distinct_names};
 use crate::{Fetch, FileSource};
 
 /// Files in memory, which tell all that they hold. Of the fetches, counted from 1, those whose numbers are in `failing`
@@ -54,33 +54,26 @@ impl FileSource for MemoryFiles {
             self.faults = self.faults.saturating_add(1);
             return Fetch::Failed;
         }
-        read_file(&self.files, name, limit, out)
+        answer(find(&self.files, name), limit, out)
     }
 }
 
-// The answer of a source that holds these files.
-pub(crate) fn read_file(
-    files: &[(String, Vec<u8>)],
-    name: &str,
-    limit: usize,
-    out: &mut Vec<u8>,
-) -> Fetch
+// The answer of a source where these bytes are found.
+pub(crate) fn answer(found: Option<&[u8]>, limit: usize, out: &mut Vec<u8>) -> Fetch
     requires { out.old.items ≡ [] }
-    ensures found { Answers (file name.now (files_of files.now)) limit out.new.items result }
+    ensures found { Answers (option_copied found.entry) limit out.new.items result }
     ensures fits { vec_len out.new ≤ limit }
     ensures emptied { result ≢ Fetch.Whole → out.new.items ≡ [] }
     ensures sure { result ≢ Fetch.Failed }
 {
-    for pair in files {
-        if pair.0.as_str() == name {
-            if pair.1.len() > limit {
-                return Fetch::TooLong;
-            }
-            return match out.extend_from_slice(&pair.1) {
-                Ok(_) => Fetch::Whole,
-                Err(_) => Fetch::Memory,
-            };
-        }
+    let Some(bytes) = found else {
+        return Fetch::Missing;
+    };
+    if bytes.len() > limit {
+        return Fetch::TooLong;
     }
-    Fetch::Missing
+    match out.extend_from_slice(bytes) {
+        Ok(_) => Fetch::Whole,
+        Err(_) => Fetch::Memory,
+    }
 }

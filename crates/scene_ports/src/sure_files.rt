@@ -1,28 +1,33 @@
 // A source of files in memory that never fails.
 ghost use Rattle.std.specs.Prelude.{◌≡◌, ◌≤◌, ◌↔◌, Some, IfSome, IsSome, vec_len};
-ghost use Rattle.scene_ports.specs.Files.{files_of, HasDistinctNames, HasDistinctNames-prop};
+ghost use Rattle.std.specs.List.Sorted.{IsStrictlySortedBy-prop};
+ghost use Rattle.scene_ports.specs.Files.{files_of, HasDistinctNames, HasDistinctNames-prop, HaveSameFiles, IsSortedByName};
 
-use crate::memory_files::read_file;
-use crate::pairs::has_distinct_names;
+use crate::memory_files::answer;
+use crate::sorted_files::{find_sorted, sort_by_name};
 use crate::{Fetch, FileSource};
 
-/// Files in memory, which tell all that they hold. No fetch of them fails, so a reader that reports a read fault over
-/// them is refused by its own contract.
+/// Files in memory, in the order of their names, so that a fetch takes about as many steps as the logarithm of their
+/// count. They tell all that they hold. No fetch of them fails, so a reader that reports a read fault over them is
+/// refused by its own contract.
 #[derive(Drop)]
 pub struct SureFiles {
     files: Vec<(String, Vec<u8>)>,
     fetches: u64,
     ghost names: { HasDistinctNames (files_of files.items) } by { HasDistinctNames-prop _ },
+    ghost sorted: { IsSortedByName (files_of files.items) } by { IsStrictlySortedBy-prop _ _ },
 }
 
 impl SureFiles {
-    /// A source of these files, with no fetch so far. None exactly where two names are equal.
-    pub fn new(files: Vec<(String, Vec<u8>)>) -> Option<SureFiles>
+    /// A source of these files, with no fetch so far. None exactly where two names are equal. It sorts the files where
+    /// they lie.
+    pub fn new(mut files: Vec<(String, Vec<u8>)>) -> Option<SureFiles>
         ensures some { IsSome result ↔ HasDistinctNames (files_of files.items) }
-        ensures told { IfSome result (λ source. ⟦<SureFiles as FileSource>⟧.told source ≡ Some (files_of files.items)) }
+        ensures tells { IfSome result (λ source. IsSome (⟦<SureFiles as FileSource>⟧.told source)) }
+        ensures told { IfSome result (λ source. IfSome (⟦<SureFiles as FileSource>⟧.told source) (λ all. HaveSameFiles all (files_of files.items))) }
         ensures fetches { IfSome result (λ source. ⟦<SureFiles as FileSource>⟧.fetches source ≡ 0) }
     {
-        if !has_distinct_names(&files) {
+        if !sort_by_name(&mut files) {
             return None;
         }
         Some(SureFiles { files, fetches: 0 })
@@ -41,6 +46,6 @@ impl FileSource for SureFiles {
     fn fetch(&mut self, name: &str, limit: usize, out: &mut Vec<u8>) -> Fetch {
         out.clear();
         self.fetches = self.fetches.saturating_add(1);
-        read_file(&self.files, name, limit, out)
+        answer(find_sorted(&self.files, name), limit, out)
     }
 }

@@ -48,16 +48,25 @@ fn files_in_memory(rt: HostRuntime) -> Result<(), Fail> {
 #[test]
 fn files_that_never_fail(rt: HostRuntime) -> Result<(), Fail> {
     let alloc = rt.alloc();
-    let twice = vec![in alloc; pair(alloc, "a", b"1")?, pair(alloc, "a", b"2")?]?;
+    let twice = vec![in alloc;
+        pair(alloc, "a", b"1")?,
+        pair(alloc, "b", b"")?,
+        pair(alloc, "a", b"2")?,
+    ]?;
     assert!(rt; SureFiles::new(twice).is_none());
-    let files = vec![in alloc; pair(alloc, "a", b"xyz")?, pair(alloc, "b", b"")?]?;
+    let files = vec![in alloc;
+        pair(alloc, "b", b"")?,
+        pair(alloc, "ab", b"12")?,
+        pair(alloc, "a", b"xyz")?,
+    ]?;
     let mut source = SureFiles::new(files).expect(&rt, "distinct names");
     let mut out = vec![in alloc; 7]?;
-    let rows: [(&str, usize, Fetch, usize); 4] = [
+    let rows: [(&str, usize, Fetch, usize); 5] = [
         ("a", 3, Fetch::Whole, 3),
         ("a", 2, Fetch::TooLong, 0),
         ("c", 2, Fetch::Missing, 0),
         ("b", 0, Fetch::Whole, 0),
+        ("ab", 3, Fetch::Whole, 2),
     ];
     for (name, limit, wanted, length) in rows {
         assert!(rt; source.fetch(name, limit, &mut out) == wanted);
