@@ -11,20 +11,23 @@ use Rattle.implicit_tiling.specs.declared.Scheme.TheVariants.{Quad, Oct}
 use Rattle.implicit_tiling.specs.Limits.{most_levels}
 use Rattle.implicit_tiling.specs.Files.{Files, file}
 use Rattle.implicit_tiling.specs.Tile.{Tile, is_key_below}
+use Rattle.implicit_tiling.specs.Scene.{Layout}
 use Rattle.implicit_tiling.specs.Template.{filled}
+use Rattle.implicit_tileset.specs.Scene.{subtree_name}
 use Rattle.tiling_laws.proofs.TileAt.{same_tile}
 use Rattle.tiling_laws.proofs.Order.{keys_are_an_order}
 use Rattle.scene_ports.specs.Files.{HasDistinctNames}
-use Rattle.scene_ports.proofs.Named.{file-later}
+use Rattle.scene_ports.proofs.Named.{file-later, appended_distinct}
 use Rattle.availability.specs.Words.{HasWord}
 use Rattle.implicit_tiling.specs.Code.{word_tile}
 use Rattle.implicit_tiling.specs.Availability.{is_subtree_root}
 use Rattle.subtree_write.specs.Canonical.{canonical}
+use Rattle.tileset_write.specs.LayoutText.{layout_text}
 use Rattle.tile_occupancy.specs.Occupied.{IsWordBelow, IsOccupancy, tiles_of}
 use Rattle.tile_occupancy.proofs.Keys.{has_word}
 use Rattle.build_laws.specs.Made.{made_subtree, made_roots, made_files}
 use Rattle.tileset_make.specs.declared.recipe.Recipe.{Recipe}
-use Rattle.tileset_make.specs.Recipes.{subtree_template, recipe_layout}
+use Rattle.tileset_make.specs.Recipes.{subtree_template, recipe_layout, tileset_files}
 use Rattle.tileset_make.proofs.Decimals.{numbers_apart}
 
 abbrev pub name_of : Scheme → Tile → List ℕ
@@ -155,7 +158,13 @@ made_files_distinct r [] whole = (refl, tt)
 made_files_distinct r (w ∷ ws) whole =
     roots_distinct r.scheme r.levels (is_subtree_root (recipe_layout r)) (λ t. canonical (made_subtree (recipe_layout r) (w ∷ ws) t)) (w ∷ ws) whole
 
-pub tileset_not_made : (r : Recipe) (ws : List ℕ) → file (codes "tileset.json") (made_files (recipe_layout r) ws) ≡ None
-tileset_not_made r ws =
+-- where no name of a subtree file is this one, it isn't found among them
+pub not_made : (layout : Layout) (wanted : List ℕ) (words : List ℕ) → ((t : Tile) → subtree_name layout t ≢ wanted) → file wanted (made_files layout words) ≡ None
+not_made layout wanted words apart =
+    not_found wanted (subtree_name layout) (λ t. canonical (made_subtree layout words t)) (made_roots layout words) (λ k d within. apart (get_or (made_roots layout words) k d))
+
+pub recipe_files_distinct : (r : Recipe) (ws : List ℕ) → IsOccupancy r.scheme r.levels ws → HasDistinctNames (tileset_files (recipe_layout r) ws)
+recipe_files_distinct r ws whole =
     let layout = recipe_layout r in
-    not_found (codes "tileset.json") (name_of r.scheme) (λ t. canonical (made_subtree layout ws t)) (made_roots layout ws) (λ k d within. never_tileset r.scheme (get_or (made_roots layout ws) k d))
+    appended_distinct (codes "tileset.json") (layout_text layout) (made_files layout ws)
+    (ap is_some (not_made layout (codes "tileset.json") ws (never_tileset r.scheme))) (made_files_distinct r ws whole)
