@@ -6,3 +6,4 @@ pub mod Parts
 pub mod Search
 pub mod Apart
 pub mod Full
+pub mod Put

@@ -1,4 +1,5 @@
 pub mod Bits
 pub mod Bytes
 pub mod Kind
+pub mod Places
 pub mod Words

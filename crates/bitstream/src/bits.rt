@@ -1,12 +1,13 @@
 // Bits: a constant or a bitstream.
-ghost use Rattle.std.specs.Prelude.{◌≡◌, ◌*◌, ◌<◌, ◌≤◌, ◌↔◌, ◌++◌, OnOk, OnErr, IfSome, IsNone, MatchBool, MatchOption, length, replicate, take};
-ghost use Rattle.bitstream.specs.Bits.{bit_at, bits_of_bytes, ones_of, HasNoOne, IsFirstOne, IsWithin, HasOneAlone};
+ghost use Rattle.std.specs.Prelude.{◌≡◌, ◌*◌, ◌<◌, ◌≤◌, ◌↔◌, ◌++◌, All, IfOk, OnOk, OnErr, IfSome, IsNone, MatchBool, MatchOption, length, replicate, take};
+ghost use Rattle.bitstream.specs.Bits.{bit_at, bits_of_bytes, bits_of_places, ones_of, HasNoOne, IsFirstOne, IsWithin, HasOneAlone};
 ghost use Rattle.bitstream.specs.Bytes.{bytes_of_bits};
 
 use crate::append::{append_constant, append_front};
+use crate::places::bytes_of_places;
 use crate::within::has_all_of;
 use crate::words::{first_one_in, ones_in};
-use std::alloc::AllocError;
+use std::alloc::{AllocError, Global};
 use std::marker::Model;
 
 /// How bits are held.
@@ -55,6 +56,18 @@ impl Bits {
             return None;
         }
         Some(Bits {
+            kind: Kind::Bytes { bytes, count },
+        })
+    }
+
+    /// `count` bits, of which those at the places are 1; a place may stand there twice. It takes as few bytes as the
+    /// bits fill.
+    pub fn of_places(alloc: Global, count: u64, places: &[u64]) -> Result<Bits, AllocError>
+        requires { All (λ p. p < count) places.now }
+        ensures { IfOk result (λ bits. bits ≡ bits_of_places count places.now) }
+    {
+        let bytes = bytes_of_places(alloc, count, places)?;
+        Ok(Bits {
             kind: Kind::Bytes { bytes, count },
         })
     }

@@ -60,3 +60,14 @@ fn a_plain_loop_agrees(rt: HostRuntime) -> Result<(), Fail> {
     assert!(rt; written.len() == 35 && written.first() == Some(&7) && written.last() == Some(&7));
     Ok(())
 }
+
+#[test]
+fn ones_at_places(rt: HostRuntime) -> Result<(), Fail> {
+    let mut written = Vec::new(rt.alloc());
+    Bits::of_places(rt.alloc(), 20, &[19, 3, 0, 3])?.append_bytes(&mut written)?;
+    Bits::of_places(rt.alloc(), 8, &[7])?.append_bytes(&mut written)?;
+    Bits::of_places(rt.alloc(), 9, &[])?.append_bytes(&mut written)?;
+    Bits::of_places(rt.alloc(), 0, &[])?.append_bytes(&mut written)?;
+    assert_eq!(rt; written.as_slice(), [9, 0, 8, 128, 0, 0].as_slice());
+    Ok(())
+}

@@ -1,1 +1,4 @@
 pub mod Puts
+pub mod Runs
+pub mod Roots
+pub mod Bits

@@ -1,6 +1,8 @@
 -- Files that are put into a keeper, one after another (this project's own).
 use Rattle.std.specs.Prelude.{ℕ, ◌≡◌, ◌≢◌, List, ◌∷◌, ◌++◌, Option, Some, None}
 use Rattle.implicit_tiling.specs.Files.{Files, file}
+use Rattle.scene_ports.specs.declared.keeper.Put.{Put}
+use Rattle.scene_ports.specs.declared.keeper.Put.TheVariants.{Failed as put_failed, Memory as put_memory}
 use Rattle.tile_builder.specs.declared.builder.BuildStop.{BuildStop}
 use Rattle.tile_builder.specs.declared.builder.BuildStop.TheVariants.{Failed, Memory}
 
@@ -32,3 +34,8 @@ abbrev pub IfTold : Option Files → Option Files → (Files → Files → Type 
 IfTold None now P = Unit {0}
 IfTold (Some before) None P = ⊥
 IfTold (Some before) (Some now) P = P before now
+
+-- what the keeper answered at the file at which it stopped
+abbrev pub put_of : BuildStop → Put
+put_of Failed = put_failed
+put_of Memory = put_memory

@@ -1,7 +1,11 @@
 //! Making the files of a tileset from the tiles that are to be there.
 #![tactic(auto)]
 
+mod bits;
 mod builder;
+mod file;
+mod runs;
+mod subtree;
 
 pub use builder::{BuildStop, Built, build};
 pub use tile_occupancy::{Occupancy, OccupancyFault, generate};

@@ -10,8 +10,8 @@ ghost use Rattle.tile_occupancy.specs.Occupied.{KeysRise, tiles_of};
 use availability::{tile_of, word_of};
 use tile_coords::{Scheme, Tile, Word};
 
-// The tile of a word.
-pub(crate) fn word_tile(scheme: Scheme, word: Word) -> Tile
+/// The tile of a word.
+pub fn word_tile(scheme: Scheme, word: Word) -> Tile
     requires { IsWord scheme word }
     ensures tile { result ≡ word_tile_of scheme word }
     ensures is_tile { IsTile scheme result }
@@ -23,8 +23,8 @@ pub(crate) fn word_tile(scheme: Scheme, word: Word) -> Tile
     }
 }
 
-// The word of the same tile without contents. These are ordered as the keys of the tiles.
-pub(crate) fn key_of(scheme: Scheme, word: Word) -> Word
+/// The word of the same tile without contents. These are ordered as the keys of the tiles.
+pub fn key_of(scheme: Scheme, word: Word) -> Word
     requires { IsWord scheme word }
     ensures { result ≡ word_for scheme (word_tile_of scheme word) 0 }
 {
