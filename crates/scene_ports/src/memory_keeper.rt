@@ -63,7 +63,7 @@ impl FileKeeper for MemoryKeeper {
 }
 
 // Puts the pair in place of the one of its name, or behind all others.
-pub(crate) fn keep(
+fn keep(
     alloc: Global,
     files: &mut Vec<(String, Vec<u8>)>,
     name: &str,

@@ -1,4 +1,4 @@
-use Rattle.std.proofs.Common.{rules, Some, ◌≡◌, ap, ◌∙◌, sym}
+use Rattle.std.proofs.Common.{rules, Some, ap, ◌∙◌, sym}
 use Rattle.std.proofs.lemmas.Fn.{always_returns_same}
 use Rattle.scene_ports.proofs.ByName.{compares, searchable, none_at_gap, found_at_place}
 use Rattle.scene_ports.proofs.sorted_files.find_sorted.Goals as goal

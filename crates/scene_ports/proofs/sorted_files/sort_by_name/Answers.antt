@@ -1,5 +1,5 @@
-use Rattle.std.proofs.Common.{rules, ◌≡◌, ap, ◌∙◌, sym, subst, List}
-use Rattle.std.specs.Prelude.{MatchBool, String, Vec}
+use Rattle.std.proofs.Common.{rules}
+use Rattle.std.specs.Prelude.{MatchBool}
 use Rattle.std.proofs.lemmas.List.Sorted.{answers_always}
 use Rattle.scene_ports.specs.Files.{files_of, HasDistinctNames, IsSortedByName}
 use Rattle.scene_ports.proofs.ByName.{is_before, told_by_neighbours, distinct_told, sorted_told, sorted_distinct, same_told}
