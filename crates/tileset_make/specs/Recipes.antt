@@ -27,13 +27,16 @@ content_end Oct = codes ".{level}.{x}.{y}.{z}.glb"
 abbrev pub content_template : Scheme → ℕ → List ℕ
 content_template scheme c = codes "c" ++ decimal c ++ content_end scheme
 
+abbrev pub content_templates : Scheme → ℕ → List (List ℕ)
+content_templates scheme contents = map (content_template scheme) (range_with_len 0 contents)
+
 abbrev pub recipe_layout : Recipe → Layout
 recipe_layout r = record {
   scheme = r.scheme;
   subtree_levels = r.subtree_levels;
   levels = r.levels;
   subtree = subtree_template r.scheme;
-  contents = map (content_template r.scheme) (range_with_len 0 r.contents);
+  contents = content_templates r.scheme r.contents;
 }
 
 -- ---- the tiles, and the files with `tileset.json` as the last
@@ -41,8 +44,11 @@ recipe_layout r = record {
 abbrev pub recipe_words : Recipe → List ℕ
 recipe_words r = generated_words r.scheme r.levels r.contents r.points r.number
 
+abbrev pub tileset_files : Layout → List ℕ → Files
+tileset_files layout words = made_files layout words ++ (codes "tileset.json", layout_text layout) ∷ []
+
 abbrev pub recipe_files : Recipe → Files
-recipe_files r = made_files (recipe_layout r) (recipe_words r) ++ (codes "tileset.json", layout_text (recipe_layout r)) ∷ []
+recipe_files r = tileset_files (recipe_layout r) (recipe_words r)
 
 -- ---- what a survey finds: the files, the tiles, those of an answer for all of them, their contents, and whether there are
 -- more than an answer holds

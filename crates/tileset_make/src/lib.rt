@@ -2,6 +2,14 @@
 //! in memory and surveyed.
 #![tactic(auto)]
 
+mod found;
+mod layout;
+mod making;
 mod recipe;
+mod surveying;
+mod tileset;
 
+pub use found::Survey;
+pub use making::make;
 pub use recipe::Recipe;
+pub use surveying::survey;

@@ -1,0 +1,31 @@
+-- Scenes of files that are looked up alike.
+use Rattle.std.proofs.Common.{◌≡◌, ◌≢◌, ℕ, List, codes, ap, sym, subst, ◌∙◌}
+use Rattle.std.specs.Prelude.{Some, Ok}
+use Rattle.implicit_tiling.specs.Checks.{need}
+use Rattle.implicit_tiling.specs.Files.{Files, file}
+use Rattle.implicit_tiling.specs.Tile.{Tile}
+use Rattle.implicit_tiling.specs.Scene.{Layout, Scene}
+use Rattle.implicit_tileset.specs.Tileset.{layout_of}
+use Rattle.implicit_tileset.specs.SubtreeFile.{outcome_in}
+use Rattle.implicit_tileset.specs.Scene.{subtree_name, scene_of, layout_in}
+use Rattle.scene_ports.specs.Keeper.{SameButFor, Puts}
+use Rattle.scene_ports.specs.declared.keeper.Put.TheVariants.{Kept}
+use Rattle.tileset_write.specs.LayoutText.{layout_text, IsLayout}
+use Rattle.tileset_write.proofs.LayoutStated.{layout_texts_read_back}
+use Rattle.build_laws.specs.Holds.{HoldsTiles}
+
+-- where each subtree file is the same, so is the scene
+pub same_scene : (layout : Layout) (one other : Files) → ((r : Tile) → file (subtree_name layout r) one ≡ file (subtree_name layout r) other)
+    → scene_of one layout ≡ scene_of other layout
+same_scene layout one other alike = λ i. record { layout = layout; outcome = λ r. outcome_in layout r (alike r i) }
+
+-- a file of another name leaves the tiles that files hold
+pub still_hold : (layout : Layout) (name : List ℕ) (words : List ℕ) (mid now : Files) → ((t : Tile) → subtree_name layout t ≢ name) → SameButFor name mid now
+    → HoldsTiles (scene_of mid layout) words → HoldsTiles (scene_of now layout) words
+still_hold layout name words mid now apart same holds =
+    let P : Scene → Type 0 = λ s. HoldsTiles s words in
+    subst P (sym (same_scene layout now mid (λ r. same (subtree_name layout r) (apart r)))) holds
+
+-- the text of a layout is read as the layout
+pub layout_read : (layout : Layout) (mid now : Files) → IsLayout layout → Puts (codes "tileset.json") (layout_text layout) mid now Kept → layout_in now ≡ Ok layout
+layout_read layout mid now is put = ap (λ found. need 1 found layout_of) put.0 ∙ layout_texts_read_back layout is

@@ -1,0 +1,127 @@
+// Surveys of recipes.
+ghost use Rattle.std.specs.Prelude.{◌≡◌, ◌≤◌, length, sum_by, count_ones, IfOk, IfSome, IsSome};
+ghost use Rattle.std.specs.List.{All};
+ghost use Rattle.implicit_tiling.specs.Answer.{most_tiles};
+ghost use Rattle.implicit_tiling.specs.Code.{word_mask, IsWord};
+ghost use Rattle.implicit_tileset.specs.Scene.{scene_of};
+ghost use Rattle.walk_laws.specs.Regions.{whole};
+ghost use Rattle.tile_walk.specs.Plans.{FitsLayout};
+ghost use Rattle.tile_walk.specs.Walks.{AreFound, IsAnswer};
+ghost use Rattle.tile_occupancy.specs.Occupied.{IsOccupancy};
+ghost use Rattle.build_laws.specs.Holds.{HoldsTiles};
+ghost use Rattle.tileset_make.specs.Recipes.{recipe_layout, recipe_words, recipe_files, survey_of};
+
+use crate::found::Survey;
+use crate::layout::layout_of;
+use crate::making::make;
+use crate::recipe::Recipe;
+use availability::tile_of;
+use framed_walk::framed;
+use scene_ports::{FileSource, SureFiles, SureKeeper};
+use std::alloc::{AllocError, Global};
+use tile_builder::{BuildStop, Built};
+use tile_coords::{Plan, Region, Scheme, WalkEnd, Word};
+use tile_walk::WalkStop;
+use tileset_json::Layout;
+
+// The frames of the walk over all tiles.
+const FRAMES: usize = 4;
+
+/// Makes the tileset of a recipe in memory, and walks the region of all its tiles. An error is want of memory.
+pub fn survey(alloc: Global, recipe: &Recipe) -> Result<Survey, AllocError>
+    ensures { IfOk result (λ found. found ≡ survey_of recipe.now) }
+{
+    let (built, mut files) = made_in_memory(alloc, recipe)?;
+    let layout = layout_of(alloc, recipe)?;
+    let (words, end) = all_words(alloc, &mut files, &layout)?;
+    Ok(Survey {
+        files: built.files,
+        tiles: built.tiles,
+        listed: words.len() as u64,
+        contents: count_contents(recipe.scheme, &words),
+        more: matches!(end, WalkEnd::TooMany),
+    })
+}
+
+// The tileset of a recipe, as files in memory.
+fn made_in_memory(alloc: Global, recipe: &Recipe) -> Result<(Built, SureFiles), AllocError>
+    ensures files { IfOk result (λ made. made.0.files ≡ length (recipe_files recipe.now)) }
+    ensures tiles { IfOk result (λ made. made.0.tiles ≡ length (recipe_words recipe.now)) }
+    ensures told { IfOk result (λ made. IsSome (⟦<SureFiles as FileSource>⟧.told made.1)) }
+    ensures holds { IfOk result (λ made. IfSome (⟦<SureFiles as FileSource>⟧.told made.1) (λ all. HoldsTiles (scene_of all (recipe_layout recipe.now)) (recipe_words recipe.now))) }
+    ensures whole { IfOk result (λ made. IsOccupancy recipe.now.scheme recipe.now.levels (recipe_words recipe.now)) }
+{
+    let mut keeper = SureKeeper::new(alloc);
+    let built = match make(alloc, recipe, &mut keeper) {
+        Ok(built) => built,
+        Err(BuildStop::Memory) => return Err(AllocError),
+        Err(BuildStop::Failed) => unreachable!(),
+    };
+    match SureFiles::new(keeper.into_files()) {
+        Some(files) => Ok((built, files)),
+        None => unreachable!(),
+    }
+}
+
+// The words of the answer for all tiles, and its end.
+fn all_words(
+    alloc: Global,
+    files: &mut SureFiles,
+    layout: &Layout,
+) -> Result<(Vec<Word>, WalkEnd), AllocError>
+    ensures answer { IfOk result (λ found. IfSome (⟦<SureFiles as FileSource>⟧.told files.old) (λ all. IsAnswer (scene_of all layout.now) (whole layout.now.scheme layout.now.levels) found.0.items found.1)) }
+    ensures found { IfOk result (λ found. AreFound layout.now.scheme found.0.items) }
+{
+    let mut words = Vec::new(alloc);
+    let plan = whole_plan(layout);
+    match framed(alloc, files, layout, &plan, FRAMES, &mut words) {
+        Ok(end) => Ok((words, end)),
+        Err(WalkStop::Memory) => Err(AllocError),
+        Err(WalkStop::ReadFault) => unreachable!(),
+    }
+}
+
+// The plan of the region of all tiles.
+fn whole_plan(layout: &Layout) -> Plan
+    ensures fits { FitsLayout layout.now result }
+    ensures region { result.region ≡ whole layout.now.scheme layout.now.levels }
+{
+    let last = (1u32 << (layout.levels - 1)) - 1;
+    let depth = match layout.scheme {
+        Scheme::Quad => 0,
+        Scheme::Oct => last,
+    };
+    Plan {
+        scheme: layout.scheme,
+        region: Region {
+            level: layout.levels - 1,
+            lo: [0, 0, 0],
+            hi: [last, last, depth],
+        },
+    }
+}
+
+// The contents of the tiles of some words.
+fn count_contents(scheme: Scheme, words: &[Word]) -> u64
+    requires words { All (IsWord scheme) words.now }
+    requires few { length words.now ≤ most_tiles }
+    ensures { result ≡ sum_by (λ w. count_ones (word_mask w)) words.now }
+{
+    let mut contents = 0;
+    for word in words {
+        contents += contents_at(scheme, *word);
+    }
+    contents
+}
+
+// The contents of the tile of a word.
+fn contents_at(scheme: Scheme, word: Word) -> u64
+    requires { IsWord scheme word }
+    ensures ones { result ≡ count_ones (word_mask word) }
+    ensures few { result ≤ 255 }
+{
+    match tile_of(scheme, word) {
+        Some(found) => u64::from(found.mask.count_ones()),
+        None => unreachable!(),
+    }
+}
