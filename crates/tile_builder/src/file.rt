@@ -7,7 +7,6 @@ ghost use Rattle.build_laws.specs.Made.{made_subtree as made_subtree_of};
 ghost use Rattle.tile_builder.specs.Roots.{IsRootOf};
 
 use crate::subtree::made_subtree;
-use availability::axes;
 use std::alloc::{AllocError, Global};
 use subtree_write::encode;
 use tile_coords::{Tile, Word};
@@ -43,7 +42,7 @@ impl MadeFile {
     {
         self.name.clear();
         let coordinates = [root.x, root.y, root.z];
-        layout.subtree.fill(axes(layout.scheme), root.level, coordinates, &mut self.name)?;
+        layout.subtree.fill(layout.scheme.axes(), root.level, coordinates, &mut self.name)?;
         let subtree = made_subtree(alloc, layout, words, root)?;
         self.bytes.clear();
         encode(alloc, &subtree, &mut self.bytes)
