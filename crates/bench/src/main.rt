@@ -7,6 +7,7 @@ use std::time::Duration;
 
 mod bits_loops;
 mod decode_loops;
+mod frame_loops;
 mod morton_loops;
 mod turn_loops;
 
@@ -14,6 +15,7 @@ fn main(rt: HostRuntime) -> io::Result<()> {
     morton_loops::run(&rt)?;
     bits_loops::run(&rt, rt.alloc())?;
     decode_loops::run(&rt, rt.alloc())?;
+    frame_loops::run(&rt, rt.alloc())?;
     turn_loops::run(&rt, rt.alloc())
 }
 
