@@ -1,14 +1,15 @@
--- The words of a command: a word that begins with a hyphen is neither a number nor coordinates.
-use Rattle.std.proofs.Common.{◌≡◌, ◌≢◌, ℕ, Bool, true, false, List, [], ◌∷◌, refl, ap, ◌∙◌, arith, length, is_some}
+-- The words of a command: a word that begins with a hyphen is neither a number nor coordinates, and no scheme.
+use Rattle.std.proofs.Common.{◌≡◌, ◌≢◌, ℕ, suc, Bool, true, false, List, [], ◌∷◌, refl, sym, ap, ◌∙◌, arith, length, is_some}
 use Rattle.std.specs.Prelude.{Option, Some, None, option_and_then, option_map, ◌||◌, ◌&&◌, ◌==◌, ◌^◌, if◌then◌else◌, nat_lt}
 use Rattle.std.specs.List.{join_with_byte, list_any, slice_split, onto_first}
 use Rattle.std.specs.Str.{bytes_eq}
 use Rattle.std.specs.Str.Parse.{digits_value}
 use Rattle.std.proofs.lemmas.Bool.Decides.{nat_tests}
 use Rattle.clap.specs.Lexer.{long_of, short_of}
-use Rattle.implicit_tiling.specs.Request.{Line, begins_well, number, numbers, numbers_of_pieces, coordinates, line_of_words}
+use Rattle.implicit_tiling.specs.declared.Scheme.{Scheme}
+use Rattle.implicit_tiling.specs.Request.{begins_well, number, numbers, numbers_of_pieces, coordinates, line_of_words}
 use Rattle.commands.specs.Values.{AskNothing}
-use Rattle.commands.specs.Words.{tiles, tiles_asked, without_dashes}
+use Rattle.commands.specs.Words.{tiles, tiles_asked, check_asked, scheme_of_word, recipe_of_numbers, recipe_of_words, without_dashes}
 
 -- a word before `--` begins with a hyphen, and is not `-`
 abbrev pub has_flag : List (List ℕ) → Bool
@@ -33,6 +34,39 @@ not_three (a ∷ []) n = refl
 not_three (a ∷ b ∷ []) n = refl
 not_three (a ∷ b ∷ c ∷ []) n = absurd (n refl)
 not_three (a ∷ b ∷ c ∷ d ∷ more) n = refl
+
+none_after : {A B : Type 0} (o : Option A) (f : A → Option B) → ((n : A) → f n ≡ None) → option_and_then f o ≡ None
+none_after None f h = refl
+none_after (Some n) f h = h n
+
+-- there are as many numbers as words
+numbers_more : (first : Option ℕ) (rest : Option (List ℕ)) (count : ℕ) (ns : List ℕ) → ((ms : List ℕ) → rest ≡ Some ms → length ms ≡ count)
+    → option_and_then (λ n. option_map (λ ms. n ∷ ms) rest) first ≡ Some ns → length ns ≡ suc count
+numbers_more None rest count ns each is = cc
+numbers_more (Some n) None count ns each is = cc
+numbers_more (Some n) (Some ms) count ns each is = let same : n ∷ ms ≡ ns = cc in sym (ap length same) ∙ ap (λ k. suc k) (each ms refl)
+
+numbers_many : (words : List (List ℕ)) (ns : List ℕ) → numbers words ≡ Some ns → length ns ≡ length words
+numbers_many [] ns is = let same : [] ≡ ns = cc in sym (ap length same)
+numbers_many (w ∷ ws) ns is = numbers_more (number w) (numbers ws) (length ws) ns (numbers_many ws) is
+
+not_five : (scheme : Scheme) (ns : List ℕ) → length ns ≢ 5 → recipe_of_numbers scheme ns ≡ None
+not_five scheme [] n = refl
+not_five scheme (a ∷ []) n = refl
+not_five scheme (a ∷ b ∷ []) n = refl
+not_five scheme (a ∷ b ∷ c ∷ []) n = refl
+not_five scheme (a ∷ b ∷ c ∷ d ∷ []) n = refl
+not_five scheme (a ∷ b ∷ c ∷ d ∷ e ∷ []) n = absurd (n refl)
+not_five scheme (a ∷ b ∷ c ∷ d ∷ e ∷ f ∷ more) n = refl
+
+none_of_others : (scheme : Scheme) (read : Option (List ℕ)) → ((ns : List ℕ) → read ≡ Some ns → length ns ≢ 5) → option_and_then (recipe_of_numbers scheme) read ≡ None
+none_of_others scheme None other = refl
+none_of_others scheme (Some ns) other = not_five scheme ns (other ns refl)
+
+pub not_six : (words : List (List ℕ)) → length words ≢ 6 → recipe_of_words words ≡ None
+not_six [] n = refl
+not_six (w ∷ ws) n = none_after (scheme_of_word w) _ (λ scheme.
+    none_of_others scheme (numbers ws) (λ ns is five. n (ap (λ k. suc k) (sym (numbers_many ws ns is) ∙ five))))
 
 -- ---- a word before `--` that begins with a hyphen is among those without `--`
 
@@ -85,10 +119,6 @@ no_coordinates : (w : List ℕ) → begins_with_hyphen w ≡ true → coordinate
 no_coordinates [] h = absurd (no_bool h)
 no_coordinates (c ∷ cs) h = ap (λ d. coordinates (d ∷ cs)) (is_hyphen c h) ∙ pieces_from_hyphen (slice_split (λ d. d == 44) cs)
 
-none_after : {A : Type 0} (o : Option A) (f : A → Option Line) → ((n : A) → f n ≡ None) → option_and_then f o ≡ None
-none_after None f h = refl
-none_after (Some n) f h = h n
-
 no_line : (a b c : List ℕ) (x y z : Bool) → begins_with_hyphen a ≡ x → begins_with_hyphen b ≡ y → begins_with_hyphen c ≡ z
     → (x || (y || (z || false))) ≡ true → line_of_words (a ∷ b ∷ c ∷ []) ≡ None
 no_line a b c true y z p q r h = ap (option_and_then _) (no_number a p)
@@ -99,12 +129,45 @@ no_line a b c false false false p q r h = absurd (no_bool h)
 none_asked : (words : List (List ℕ)) → line_of_words words ≡ None → tiles_asked words ≡ None
 none_asked words none = ap (option_map (λ line. tiles (join_with_byte 32 words))) none
 
+no_tiles : (words : List (List ℕ)) → list_any begins_with_hyphen words ≡ true → tiles_asked words ≡ None
+no_tiles [] h = absurd (no_bool h)
+no_tiles (a ∷ []) h = refl
+no_tiles (a ∷ b ∷ []) h = refl
+no_tiles (a ∷ b ∷ c ∷ []) h = none_asked (a ∷ b ∷ c ∷ []) (no_line a b c _ _ _ refl refl refl h)
+no_tiles (a ∷ b ∷ c ∷ d ∷ more) h = refl
+
+no_check : (words : List (List ℕ)) → list_any begins_with_hyphen words ≡ true → check_asked words ≡ None
+no_check [] h = absurd (no_bool h)
+no_check (a ∷ more) h = refl
+
+-- ---- nor a scheme
+
+scheme_from_hyphen : (cs : List ℕ) → scheme_of_word (45 ∷ cs) ≡ None
+scheme_from_hyphen cs = refl
+
+no_scheme : (w : List ℕ) → begins_with_hyphen w ≡ true → scheme_of_word w ≡ None
+no_scheme [] h = absurd (no_bool h)
+no_scheme (c ∷ cs) h = ap (λ d. scheme_of_word (d ∷ cs)) (is_hyphen c h) ∙ scheme_from_hyphen cs
+
+no_numbers_by : (b : Bool) (w : List ℕ) (ws : List (List ℕ)) → begins_with_hyphen w ≡ b → (b || list_any begins_with_hyphen ws) ≡ true
+    → (list_any begins_with_hyphen ws ≡ true → numbers ws ≡ None) → numbers (w ∷ ws) ≡ None
+no_numbers_by true w ws is h more = ap (option_and_then _) (no_number w is)
+no_numbers_by false w ws is h more = none_after (number w) _ (λ n. ap (option_map _) (more h))
+
+no_numbers : (ws : List (List ℕ)) → list_any begins_with_hyphen ws ≡ true → numbers ws ≡ None
+no_numbers [] h = absurd (no_bool h)
+no_numbers (w ∷ ws) h = no_numbers_by (begins_with_hyphen w) w ws refl h (no_numbers ws)
+
+no_recipe_by : (b : Bool) (w : List ℕ) (ws : List (List ℕ)) → begins_with_hyphen w ≡ b → (b || list_any begins_with_hyphen ws) ≡ true → recipe_of_words (w ∷ ws) ≡ None
+no_recipe_by true w ws is h = ap (option_and_then _) (no_scheme w is)
+no_recipe_by false w ws is h = none_after (scheme_of_word w) _ (λ scheme. ap (option_and_then (recipe_of_numbers scheme)) (no_numbers ws h))
+
+no_recipe : (words : List (List ℕ)) → list_any begins_with_hyphen words ≡ true → recipe_of_words words ≡ None
+no_recipe [] h = absurd (no_bool h)
+no_recipe (w ∷ ws) h = no_recipe_by (begins_with_hyphen w) w ws refl h
+
 nothing_asked : (words : List (List ℕ)) → list_any begins_with_hyphen words ≡ true → AskNothing words
-nothing_asked [] h = absurd (no_bool h)
-nothing_asked (a ∷ []) h = (refl, refl)
-nothing_asked (a ∷ b ∷ []) h = (refl, refl)
-nothing_asked (a ∷ b ∷ c ∷ []) h = (none_asked (a ∷ b ∷ c ∷ []) (no_line a b c _ _ _ refl refl refl h), refl)
-nothing_asked (a ∷ b ∷ c ∷ d ∷ more) h = (refl, refl)
+nothing_asked words h = (no_tiles words h, no_check words h, no_recipe words h)
 
 pub flags_ask_nothing : (words : List (List ℕ)) → has_flag words ≡ true → AskNothing (without_dashes words)
 flags_ask_nothing words h = nothing_asked (without_dashes words) (hyphened words h)

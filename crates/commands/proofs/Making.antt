@@ -1,5 +1,5 @@
 -- What is left of the files that were kept, and fronts of the texts of what was made.
-use Rattle.std.proofs.Common.{◌≡◌, ◌∙◌, ℕ, Bool, List, [], ◌++◌, length, refl, sym, ap, ap₂, subst, append-nil, inl, ◌⊎◌}
+use Rattle.std.proofs.Common.{◌≡◌, ℕ, List, [], ◌++◌, length, refl, sym, ap₂, subst, append-nil, inl, ◌⊎◌}
 use Rattle.std.specs.Prelude.{Option, Some, None, Ok}
 use Rattle.implicit_tiling.specs.Files.{Files}
 use Rattle.implicit_tileset.specs.Scene.{scene_of, layout_in as layout_of_files}
@@ -39,10 +39,6 @@ pub made_front : (r : Recipe) (files tiles : ℕ) (before now : Option (List ℕ
 made_front r files tiles before now few many front = subst (GivesFront before now) (ap₂ made_text few many) front
 
 -- and of what was surveyed
-pub survey_front : (r : Recipe) (files tiles listed contents : ℕ) (more : Bool) (before now : Option (List ℕ)) → files ≡ (survey_of r).files → tiles ≡ (survey_of r).tiles
-    → listed ≡ (survey_of r).listed → contents ≡ (survey_of r).contents → more ≡ (survey_of r).more
-    → GivesFront before now (survey_text files tiles listed contents more) → IsBegun (Ok (survey_reply r)) before now
-survey_front r files tiles listed contents more before now a b c d e front =
-    let s : Found = survey_of r in
-    subst (GivesFront before now) (ap (λ n. survey_text n tiles listed contents more) a ∙ (ap (λ n. survey_text s.files n listed contents more) b
-    ∙ (ap (λ n. survey_text s.files s.tiles n contents more) c ∙ (ap (λ n. survey_text s.files s.tiles s.listed n more) d ∙ ap (survey_text s.files s.tiles s.listed s.contents) e)))) front
+pub survey_front : (r : Recipe) (s : Found) (before now : Option (List ℕ)) → s ≡ survey_of r → GivesFront before now (survey_text s.files s.tiles s.listed s.contents s.more)
+    → IsBegun (Ok (survey_reply r)) before now
+survey_front r s before now is front = let P : Found → Type 0 = λ f. GivesFront before now (survey_text f.files f.tiles f.listed f.contents f.more) in subst P is front

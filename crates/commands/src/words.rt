@@ -1,14 +1,19 @@
 // The words of a command line.
-ghost use Rattle.std.specs.Prelude.{◌≡◌, ◌∷◌, [], Err, drop, length, map, string_bytes, IfOk};
+ghost use Rattle.std.specs.Prelude.{◌≡◌, ◌∷◌, [], Some, None, Err, drop, length, map, string_bytes, IfOk};
 ghost use Rattle.std.specs.List.{join_with_byte};
 ghost use Rattle.clap.specs.Words.{app_of};
 ghost use Rattle.commands.specs.Values.{AskNothing, command, values_of};
-ghost use Rattle.commands.specs.Words.{asked, tiles_asked, check_asked, without_dashes, Reads};
+ghost use Rattle.commands.specs.Words.{asked, tiles_asked, check_asked, make_asked, survey_asked, scheme_of_word, recipe_of_words, without_dashes, Reads};
 
 use clap::error::ErrorKind;
 use clap::{Arg, ArgMatches, Command};
-use request_text::{is_coordinates, is_number};
+use request_text::{is_coordinates, is_number, read_number};
 use std::alloc::{AllocError, Global};
+use tile_coords::Scheme;
+use tileset_make::Recipe;
+
+// The most levels of a subtree of a survey.
+const MOST_SURVEYED_LEVELS: u32 = 4;
 
 /// What a command line asks for.
 #[derive(Debug, Drop)]
@@ -17,6 +22,10 @@ pub enum Asked {
     Tiles { line: String },
     /// A check of all subtree files.
     Check,
+    /// The files of a recipe, SCHEME LEVELS SUBTREE CONTENTS POINTS NUMBER.
+    Make { recipe: Recipe },
+    /// A survey of the files of a recipe, whose subtrees have at most 4 levels.
+    Survey { recipe: Recipe },
 }
 
 /// Why words ask for nothing.
@@ -49,6 +58,8 @@ pub fn words_of(alloc: Global, words: &[String]) -> Result<Asked, WordFault>
     match name.as_str() {
         "tiles" => tiles_of(alloc, words),
         "check" => check_of(alloc, words),
+        "make" => make_of(alloc, words),
+        "survey" => survey_of(alloc, words),
         _ => Err(WordFault::Usage),
     }
 }
@@ -75,6 +86,64 @@ fn check_of(alloc: Global, words: &[String]) -> Result<Asked, WordFault>
     match matches.get_strs("values") {
         None | Some([]) => Ok(Asked::Check),
         _ => Err(WordFault::Usage),
+    }
+}
+
+// What `make` and the words behind it ask for.
+fn make_of(alloc: Global, words: &[String]) -> Result<Asked, WordFault>
+    ensures { Reads (make_asked (without_dashes (drop 1 (map string_bytes words.now)))) result }
+{
+    let recipe = recipe_of(alloc, "make", words)?;
+    Ok(Asked::Make { recipe })
+}
+
+// What `survey` and the words behind it ask for.
+fn survey_of(alloc: Global, words: &[String]) -> Result<Asked, WordFault>
+    ensures { Reads (survey_asked (without_dashes (drop 1 (map string_bytes words.now)))) result }
+{
+    let recipe = recipe_of(alloc, "survey", words)?;
+    if recipe.subtree_levels > MOST_SURVEYED_LEVELS {
+        return Err(WordFault::Usage);
+    }
+    Ok(Asked::Survey { recipe })
+}
+
+// The recipe that the words behind a command's name write.
+fn recipe_of(alloc: Global, name: &str, words: &[String]) -> Result<Recipe, WordFault>
+    ensures taken { IfOk result (λ recipe. recipe_of_words (without_dashes (drop 1 (map string_bytes words.now))) ≡ Some recipe) }
+    ensures refused { result ≡ Err WordFault.Usage → recipe_of_words (without_dashes (drop 1 (map string_bytes words.now))) ≡ None }
+{
+    let matches = matches_of(alloc, name, words)?;
+    let Some(values) = matches.get_strs("values") else {
+        return Err(WordFault::Usage);
+    };
+    read_recipe(values).ok_or(WordFault::Usage)
+}
+
+// The recipe of six words of their forms, each number in its range.
+fn read_recipe(words: &[&str]) -> Option<Recipe>
+    ensures { result ≡ recipe_of_words (map (λ word. word.now) words.now) }
+{
+    match words {
+        [scheme, levels, subtree_levels, contents, points, number] => Recipe::new(
+            read_scheme(scheme)?,
+            read_number(levels.as_bytes())?,
+            read_number(subtree_levels.as_bytes())?,
+            read_number(contents.as_bytes())?,
+            read_number(points.as_bytes())?,
+            read_number(number.as_bytes())?,
+        ),
+        _ => None,
+    }
+}
+
+fn read_scheme(word: &str) -> Option<Scheme>
+    ensures { result ≡ scheme_of_word word.now }
+{
+    match word {
+        "quadtree" => Some(Scheme::Quad),
+        "octree" => Some(Scheme::Oct),
+        _ => None,
     }
 }
 
@@ -143,3 +212,6 @@ fn count_of(words: &[String]) -> usize
 {
     words.len()
 }
+
+#[cfg(test)]
+mod tests;

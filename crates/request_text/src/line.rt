@@ -125,7 +125,8 @@ pub fn is_coordinates(text: &[u8]) -> bool
     read_coordinates(text).is_some()
 }
 
-fn read_number(text: &[u8]) -> Option<u32>
+/// The number of a text of the form of `is_number`. None for any other text.
+pub fn read_number(text: &[u8]) -> Option<u32>
     ensures { result ≡ number_in text.now }
 {
     if !has_digits(text) {

@@ -6,3 +6,4 @@ pub mod Puts
 pub mod Counts
 pub mod Scenes
 pub mod Surveyed
+pub mod Chosen
