@@ -33,7 +33,7 @@ use Rattle.request_text.proofs.Found.{found_make_the_text}
 use Rattle.request_text.proofs.Words.{words_make_the_text}
 use Rattle.commands.specs.declared.status.Status.{Status}
 use Rattle.commands.specs.declared.status.Status.TheVariants.{Done, Faulted, Usage, BadLayout, ReadFault, WriteFault, InputFault, Memory, InputLong}
-use Rattle.commands.specs.Replies.{Reply, end_status, walk_status, found_status, plan_reply, check_reply, layout_in, reply_over, reply_in, reply_wanted, Agrees, IsGiven, IsBegun, Replies}
+use Rattle.commands.specs.Replies.{Reply, end_status, walk_status, found_status, plan_reply, check_reply, layout_in, reply_over, reply_in, reply_wanted, puts_files, Agrees, IsGiven, IsBegun, Replies}
 use Rattle.tile_walk.specs.Plans.{FitsLayout}
 use Rattle.tile_walk.specs.Walks.{IsAnswer, tile_word}
 use Rattle.tile_walk.specs.Checks.{IsCheck}
@@ -234,6 +234,10 @@ pub complete_of : (told : Option Files) (found : Option Wish) (wish : Wish) (S K
 complete_of told found wish S K O X before now status is replies read write =
     let P : Option Wish → Type 0 = λ o. IfSome (reply_wanted told o) (λ w. (status ≡ Memory) ⊎ (S ⊎ (K ⊎ (O ⊎ IsGiven w before now status)))) in
     subst P (sym is) (all_given_or_not (reply_wanted told (Some wish)) S K O X before now status replies read write)
+
+-- a failed write of what was found to be asked for
+pub failed_write_of : (found : Option Wish) (wish : Wish) (F O K : Type 0) → found ≡ Some wish → (F → O ⊎ ((puts_files (Some wish) ≡ true) × K)) → F → O ⊎ ((puts_files found ≡ true) × K)
+failed_write_of found wish F O K is cause = let P : Option Wish → Type 0 = λ o. F → O ⊎ ((puts_files o ≡ true) × K) in subst P (sym is) cause
 
 -- ---- the check
 

@@ -10,7 +10,8 @@ use Rattle.tileset_make.specs.declared.recipe.Recipe.{Recipe}
 use Rattle.tileset_make.specs.Recipes.{recipe_layout, recipe_words, recipe_files, Found, survey_of}
 use Rattle.request_text.specs.Made.{made_text, survey_text}
 use Rattle.commands.specs.declared.status.Status.TheVariants.{Done, WriteFault, Memory}
-use Rattle.commands.specs.Replies.{IsBegun, Leaves, make_reply, survey_reply}
+use Rattle.commands.specs.Replies.{IsBegun, Leaves, LeavesWanted, make_reply, survey_reply}
+use Rattle.commands.specs.Words.{Wish, tiles, check, make, survey}
 
 told_all : (before now : Option Files) (P Q : Files → Files → Type 0) → ((b n : Files) → P b n → Q b n) → IfTold before now P → IfTold before now Q
 told_all None now P Q f h = tt
@@ -33,10 +34,19 @@ left_made None now r put layout holds = tt
 left_made (Some b) None r put layout holds = put
 left_made (Some b) (Some n) r put layout holds = record { put = put; layout = layout; holds = holds }
 
+-- a call that wants memory before anything is put leaves all as it was
+pub nothing_left : (found : Option Wish) (kept : Option Files) → LeavesWanted found kept kept Memory
+nothing_left None kept = tt
+nothing_left (Some (tiles line)) kept = tt
+nothing_left (Some check) kept = tt
+nothing_left (Some (make r)) None = tt
+nothing_left (Some (make r)) (Some files) = record { done = []; rest = recipe_files r; parts = refl; put = λ name. refl }
+nothing_left (Some (survey r)) kept = tt
+
 -- a front of the text of what was made
-pub made_front : (r : Recipe) (files tiles : ℕ) (before now : Option (List ℕ)) → files ≡ length (recipe_files r) → tiles ≡ length (recipe_words r)
-    → GivesFront before now (made_text files tiles) → IsBegun (Ok (make_reply r)) before now
-made_front r files tiles before now few many front = subst (GivesFront before now) (ap₂ made_text few many) front
+pub made_front : (r : Recipe) (files count : ℕ) (before now : Option (List ℕ)) → files ≡ length (recipe_files r) → count ≡ length (recipe_words r)
+    → GivesFront before now (made_text files count) → IsBegun (Ok (make_reply r)) before now
+made_front r files count before now few many front = subst (GivesFront before now) (ap₂ made_text few many) front
 
 -- and of what was surveyed
 pub survey_front : (r : Recipe) (s : Found) (before now : Option (List ℕ)) → s ≡ survey_of r → GivesFront before now (survey_text s.files s.tiles s.listed s.contents s.more)
