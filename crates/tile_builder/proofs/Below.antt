@@ -1,6 +1,6 @@
 -- The keys of the tiles so many levels below a root are a run of numbers.
 use Rattle.std.proofs.Common.{◌≡◌, ℕ, ◌+◌, ◌-◌, ◌*◌, ◌^◌, ◌<◌, ◌≤◌, Bool, true, false, List, [], refl, sym, ap, subst, ◌∙◌, arith, inl, inr}
-use Rattle.std.specs.Prelude.{◌&&◌, ◌==◌, nat_lt, nat_le, filter}
+use Rattle.std.specs.Prelude.{◌==◌, nat_lt, nat_le, filter}
 use Rattle.std.specs.List.{All}
 use Rattle.std.proofs.lemmas.Bool.{cases_order, and_parts, and_from, eqb-true, eq-eqb, ltb-true, lt-ltb, leb-true, le-leb}
 use Rattle.std.proofs.lemmas.List.Elements.{All-weaker}
@@ -8,9 +8,9 @@ use Rattle.implicit_tiling.specs.declared.Scheme.{Scheme}
 use Rattle.implicit_tiling.specs.declared.Scheme.TheVariants.{Quad, Oct}
 use Rattle.implicit_tileset.specs.Tileset.{most_levels as levels_limit}
 use Rattle.implicit_tiling.specs.Limits.{most_levels}
-use Rattle.implicit_tiling.specs.Tile.{Tile, IsTile, branching, ancestor, index, tile_at}
+use Rattle.implicit_tiling.specs.Tile.{Tile, IsTile, branching, ancestor, index}
 use Rattle.implicit_tiling.specs.Scene.{Layout}
-use Rattle.implicit_tiling.specs.Code.{word, word_level, word_tile, IsWord}
+use Rattle.implicit_tiling.specs.Code.{word_tile, IsWord}
 use Rattle.tiling_laws.proofs.TileAt.{tile_at_level, index_of_tile_at}
 use Rattle.tiling_laws.proofs.Ancestors.{descendants, branching_pow_pos}
 use Rattle.walk_laws.proofs.Lists.{filter_same, filter_none}

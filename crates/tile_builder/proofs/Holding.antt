@@ -1,5 +1,5 @@
 -- Where all made files are put, the files hold the tiles.
-use Rattle.std.proofs.Common.{◌≡◌, ℕ, List, ◌++◌, get_or, length, sym, ap, subst, ◌∙◌, arith}
+use Rattle.std.proofs.Common.{◌≡◌, ℕ, List, ◌++◌, get_or, subst, ◌∙◌, arith}
 use Rattle.std.specs.Prelude.{Option, Some}
 use Rattle.std.proofs.lemmas.List.{get_or-map, length-map}
 use Rattle.implicit_tiling.specs.declared.Scheme.{Scheme}

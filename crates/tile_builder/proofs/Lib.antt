@@ -7,3 +7,4 @@ pub mod Made
 pub mod Putting
 pub mod Steps
 pub mod Holding
+mod Rows

@@ -1,18 +1,17 @@
 -- The subtree that is made of the words level by level is the one that is made of those under its root.
-use Rattle.std.proofs.Common.{◌≡◌, ℕ, ◌^◌, ◌≤◌, Bool, true, List, refl, sym, ap, subst, ◌∙◌, map, get_or}
+use Rattle.std.proofs.Common.{◌≡◌, ℕ, Bool, List, refl, sym, ap, subst, ◌∙◌, get_or}
 use Rattle.std.specs.Prelude.{length, filter}
 use Rattle.std.specs.List.{All, range_with_len}
 use Rattle.std.proofs.lemmas.List.Elements.{All-weaker, All-filter, All-same}
-use Rattle.implicit_tiling.specs.declared.Scheme.{Scheme}
-use Rattle.implicit_tiling.specs.Tile.{Tile, branching}
+use Rattle.implicit_tiling.specs.Tile.{Tile}
 use Rattle.implicit_tiling.specs.Scene.{Layout}
-use Rattle.implicit_tiling.specs.Availability.{is_subtree_root, place}
+use Rattle.implicit_tiling.specs.Availability.{place}
 use Rattle.implicit_tiling.specs.Subtree.{Subtree, IsSubtree, node_count}
 use Rattle.implicit_tiling.specs.Code.{IsWord}
 use Rattle.walk_laws.proofs.Lists.{map_same}
 use Rattle.walk_laws.proofs.PairOrder.{all_flat_map}
-use Rattle.tile_occupancy.specs.Occupied.{IsWordBelow, AreWords}
-use Rattle.build_laws.specs.Made.{tile_in, under, has_content, node_bits, child_bits, child_roots, made_subtree}
+use Rattle.tile_occupancy.specs.Occupied.{IsWordBelow}
+use Rattle.build_laws.specs.Made.{tile_in, under, has_content, node_bits, child_bits, made_subtree}
 use Rattle.build_laws.specs.Holds.{AreWordsOf}
 use Rattle.build_laws.proofs.Good.{made_well}
 use Rattle.tile_builder.specs.Bits.{content_bits}

@@ -9,12 +9,12 @@ use Rattle.std.proofs.lemmas.List.{take-append-drop}
 use Rattle.std.proofs.lemmas.Slice.Eq.{bytes_eq-Decides}
 use Rattle.implicit_tiling.specs.Files.{Files, file}
 use Rattle.scene_ports.specs.Files.{HasDistinctNames}
-use Rattle.scene_ports.specs.Keeper.{SameButFor, Puts, PutsKnown}
+use Rattle.scene_ports.specs.Keeper.{Puts, PutsKnown}
 use Rattle.scene_ports.specs.declared.keeper.Put.TheVariants.{Kept}
 use Rattle.scene_ports.proofs.Named.{file-first, file-later}
 use Rattle.tile_builder.specs.declared.builder.BuildStop.{BuildStop}
 use Rattle.tile_builder.specs.declared.builder.BuildStop.TheVariants.{Failed, Memory}
-use Rattle.tile_builder.specs.Puts.{ArePut, IsCut, IsCutAt, Stops, IfTold, put_of}
+use Rattle.tile_builder.specs.Puts.{ArePut, Stops, IfTold, put_of}
 
 -- ---- looking up a name in lists that are joined
 

@@ -51,6 +51,10 @@ impl From<AllocError> for BuildStop {
 /// 22-025r4, implicit tiling: subtrees). Then the files hold the tiles of the occupancy and no others, each with its
 /// contents. An occupancy of no tiles has the file of the root alone. After a stop the files before the one at which it
 /// stopped were put, and no later one.
+///
+/// The occupancy has the scheme and the levels of the layout, its masks name contents of the layout alone, and the names
+/// of the files differ. For each level of a subtree its tiles are found in as many steps as the number of tiles has binary
+/// digits.
 pub fn build<K: FileKeeper>(
     alloc: Global,
     occupancy: &Occupancy,

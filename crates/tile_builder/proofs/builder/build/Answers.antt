@@ -1,5 +1,4 @@
 use Rattle.std.proofs.Common.{subst}
-use Rattle.std.specs.Prelude.{List, ℕ}
 use Rattle.tileset_json.specs.Limits.{IsWithinLimits}
 use Rattle.build_laws.specs.Made.{made_files}
 use Rattle.tile_builder.specs.Puts.{ArePut, IfTold}

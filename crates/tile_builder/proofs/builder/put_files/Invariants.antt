@@ -1,6 +1,5 @@
-use Rattle.std.proofs.Common.{◌≡◌, ◌≤◌, length, take, map}
+use Rattle.std.proofs.Common.{◌≡◌, ◌≤◌, length, take}
 use Rattle.tile_builder.specs.Puts.{ArePut, IfTold}
-use Rattle.tile_builder.proofs.Putting.{told_first}
 use Rattle.tile_builder.proofs.Steps.{files_of_words}
 use Rattle.tile_builder.proofs.builder.put_files.Given as goal
 
