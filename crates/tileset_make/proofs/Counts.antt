@@ -24,5 +24,9 @@ length-tileset_files layout words =
 pub few_roots : (layout : Layout) (words : List ℕ) (most : ℕ) → 1 ≤ most → length words ≤ most → length (made_roots layout words) ≤ most
 few_roots layout [] most some few = omega arith
 few_roots layout (w ∷ words) most some few =
-    omega (arith, few, places layout.scheme (w ∷ words),
-    length-filter_both (is_subtree_root layout) (λ t. not (is_subtree_root layout t)) (λ t. refl) (tiles_of layout.scheme (w ∷ words)))
+    omega (
+      arith,
+      few,
+      places layout.scheme (w ∷ words),
+      length-filter_both (is_subtree_root layout) (λ t. not (is_subtree_root layout t)) (λ t. refl) (tiles_of layout.scheme (w ∷ words)),
+    )

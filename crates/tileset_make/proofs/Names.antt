@@ -103,7 +103,7 @@ alike t u x y a b e =
 pub names_apart : (scheme : Scheme) (t u : Tile) → HasWord scheme t → HasWord scheme u → name_of scheme t ≡ name_of scheme u → t ≡ u
 names_apart Quad t u one other e =
     let parts = alike t u (codes "subtree") (codes "subtree") (short Quad t one) (short Quad u other)
-        (behind_start (level_on t (codes "subtree")) (level_on u (codes "subtree")) (sym (quad_name t) ∙ e ∙ quad_name u)) in
+    (behind_start (level_on t (codes "subtree")) (level_on u (codes "subtree")) (sym (quad_name t) ∙ e ∙ quad_name u)) in
     same_tile t u parts.levels parts.xs parts.ys (one.is_tile.flat ∙ sym other.is_tile.flat)
 names_apart Oct t u one other e =
     let a = short Oct t one in

@@ -13,3 +13,6 @@ pub use found::Survey;
 pub use making::make;
 pub use recipe::Recipe;
 pub use surveying::survey;
+
+#[cfg(test)]
+mod tests;

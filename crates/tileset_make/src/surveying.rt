@@ -2,6 +2,7 @@
 ghost use Rattle.std.specs.Prelude.{◌≡◌, ◌≤◌, length, sum_by, count_ones, IfOk, IfSome, IsSome};
 ghost use Rattle.std.specs.List.{All};
 ghost use Rattle.implicit_tiling.specs.Answer.{most_tiles};
+ghost use Rattle.implicit_tiling.specs.Limits.{most_contents};
 ghost use Rattle.implicit_tiling.specs.Code.{word_mask, IsWord};
 ghost use Rattle.implicit_tileset.specs.Scene.{scene_of};
 ghost use Rattle.walk_laws.specs.Regions.{whole};
@@ -118,7 +119,7 @@ fn count_contents(scheme: Scheme, words: &[Word]) -> u64
 fn contents_at(scheme: Scheme, word: Word) -> u64
     requires { IsWord scheme word }
     ensures ones { result ≡ count_ones (word_mask word) }
-    ensures few { result ≤ 255 }
+    ensures few { result ≤ most_contents }
 {
     match tile_of(scheme, word) {
         Some(found) => u64::from(found.mask.count_ones()),
