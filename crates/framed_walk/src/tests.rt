@@ -1,12 +1,13 @@
-// What no clause says: how often files are fetched, and that walks with ample memory come to their ends.
-ghost use Rattle.std.specs.Prelude.{◌≡◌, ◌≤◌, IfOk};
+// What no clause says: how often files are fetched, and that walks with ample memory come to their ends. Beside it the
+// order of whole walks, as the standard counts tiles.
+ghost use Rattle.std.specs.Prelude.{◌≡◌, ◌≤◌, IfOk, IfSome};
 ghost use Rattle.tile_walk.specs.Plans.{FitsLayout};
 
 use crate::framed;
 use scene_ports::{Fetch, FileSource};
 use std::alloc::{AllocError, Global};
 use std::test::Fail;
-use tile_coords::{Plan, Region, Scheme, WalkEnd};
+use tile_coords::{Plan, Region, Scheme, WalkEnd, Word};
 use tile_walk::{WalkStop, fresh};
 use tileset_json::Layout;
 use uri_template::Template;
@@ -107,6 +108,26 @@ fn walked(
     Ok((end, files.fetches, words.len(), same))
 }
 
+// The plan of a whole level; None where there is no such level.
+fn plan_of(layout: &Layout, level: u32, most: u32) -> Option<Plan>
+    requires { layout.now.scheme ≡ Scheme.Quad }
+    ensures { IfSome result (FitsLayout layout.now) }
+{
+    match Region::new(
+        Scheme::Quad,
+        layout.levels,
+        level,
+        [0, 0, 0],
+        [most, most, 0],
+    ) {
+        Ok(region) => Some(Plan {
+            scheme: Scheme::Quad,
+            region,
+        }),
+        Err(_) => None,
+    }
+}
+
 // The walk of a whole level; None where there is no such level.
 fn walk_of(
     alloc: Global,
@@ -120,22 +141,35 @@ fn walk_of(
     requires some { 1 ≤ frames }
     requires few { frames ≤ 1024 }
 {
-    match Region::new(
-        Scheme::Quad,
-        layout.levels,
-        level,
-        [0, 0, 0],
-        [most, most, 0],
-    ) {
-        Ok(region) => {
-            let plan = Plan {
-                scheme: Scheme::Quad,
-                region,
-            };
-            Ok(Some(walked(alloc, layout, &plan, frames, failing)?))
+    let Some(plan) = plan_of(layout, level, most) else {
+        return Ok(None);
+    };
+    Ok(Some(walked(alloc, layout, &plan, frames, failing)?))
+}
+
+// The words of all tiles of a quadtree up to a level, which have no contents: by level, then by Morton index.
+fn by_level_then_index(alloc: Global, last: u64) -> Result<Vec<Word>, AllocError>
+    requires { last ≤ 3 }
+{
+    let mut words = Vec::new(alloc);
+    for level in 0..last + 1 {
+        for index in 0..1u64 << (2 * level) {
+            words.push(level << 59 | index)?;
         }
-        Err(_) => Ok(None),
     }
+    Ok(words)
+}
+
+// The words that a walk of a whole level gives; none where there is no such level.
+fn words_of(alloc: Global, layout: &Layout, level: u32, most: u32) -> Result<Vec<Word>, Fail>
+    requires { layout.now.scheme ≡ Scheme.Quad }
+{
+    let mut words = Vec::new(alloc);
+    if let Some(plan) = plan_of(layout, level, most) {
+        let mut files = source(alloc, 0)?;
+        let _end = framed(alloc, &mut files, layout, &plan, 4, &mut words);
+    }
+    Ok(words)
 }
 
 #[test]
@@ -163,5 +197,19 @@ fn walks(rt: HostRuntime) -> Result<(), Fail> {
         let layout = layout(alloc, levels)?;
         assert!(rt; walk_of(alloc, &layout, level, most, frames, failing)? == Some(wanted));
     }
+    Ok(())
+}
+
+#[test]
+fn tiles_come_by_level_then_by_index(rt: HostRuntime) -> Result<(), Fail> {
+    let alloc = rt.alloc();
+    let three = layout(alloc, 3)?;
+    let words = words_of(alloc, &three, 2, 3)?;
+    assert!(rt; words.len() == 21);
+    assert!(rt; words.as_slice() == by_level_then_index(alloc, 2)?.as_slice());
+    let four = layout(alloc, 4)?;
+    let words = words_of(alloc, &four, 3, 7)?;
+    assert!(rt; words.len() == 85);
+    assert!(rt; words.as_slice() == by_level_then_index(alloc, 3)?.as_slice());
     Ok(())
 }

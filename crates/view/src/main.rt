@@ -1,9 +1,17 @@
 //! The program `view`: a command over the current folder, standard input and standard output.
 #![tactic(auto)]
 
+ghost use Rattle.std.specs.Prelude.{◌≡◌, ◌≢◌, None, drop, map, string_bytes, IfErr, IfOk};
+ghost use Rattle.std.specs.Process.{exit_status};
+ghost use Rattle.std.specs.Vec.Iter.{into_iter_items};
+ghost use Rattle.commands.specs.Exits.{exit_of};
+ghost use Rattle.commands.specs.Replies.{IsRefused};
+ghost use Rattle.commands.specs.Words.{asked};
+
 use commands::{Status, plain};
 use scene_ports::{Folder, ReadInlet, WriteOutlet};
-use std::alloc::AllocError;
+use std::alloc::{AllocError, Global};
+use std::env::Args;
 use std::io::ErrorKind;
 use std::process::ExitCode;
 use std::{env, io};
@@ -17,32 +25,53 @@ fn main(rt: HostRuntime) -> ExitCode {
         // There is nobody left to tell where standard error fails.
         let _ = eprintln!(rt; "view: {status}");
     }
+    exit_code(status)
+}
+
+// The exit status of the program.
+fn exit_code(status: Status) -> ExitCode
+    ensures { exit_status result ≡ exit_of status }
+{
     ExitCode::from(status.exit_code())
 }
 
-// The words behind the program's name. One that isn't UTF-8 is a usage fault.
-fn words(rt: &HostRuntime) -> Result<Vec<String>, Status> {
-    let args = match env::args(rt) {
-        Ok(args) => args,
-        Err(error) => {
-            return Err(if error.kind() == ErrorKind::OutOfMemory {
-                Status::Memory
-            } else {
-                Status::Usage
-            });
-        }
-    };
-    let mut words = Vec::new(rt.alloc());
-    for word in args.skip(1) {
-        if words.push(word).is_err() {
-            return Err(Status::Memory);
-        }
+// The words behind the program's name.
+fn words(rt: &HostRuntime) -> Result<Vec<String>, Status>
+    ensures { IfErr result IsRefused }
+{
+    match env::args(rt) {
+        Ok(args) => behind_name(rt.alloc(), args).or(Err(Status::Memory)),
+        Err(error) => Err(refusal(error.kind())),
+    }
+}
+
+// Why there are no words: for want of memory, or since one isn't UTF-8, which is a usage fault.
+fn refusal(kind: ErrorKind) -> Status
+    ensures memory { kind ≡ ErrorKind.OutOfMemory → result ≡ Status.Memory }
+    ensures usage { kind ≢ ErrorKind.OutOfMemory → result ≡ Status.Usage }
+{
+    match kind {
+        ErrorKind::OutOfMemory => Status::Memory,
+        _ => Status::Usage,
+    }
+}
+
+// All arguments but the first, which is the program's name.
+fn behind_name(alloc: Global, mut args: Args) -> Result<Vec<String>, AllocError>
+    ensures { IfOk result (λ words. words.items ≡ drop 1 (into_iter_items args)) }
+{
+    let _name = args.next();
+    let mut words = Vec::new(alloc);
+    for word in args {
+        words.push(word)?;
     }
     Ok(words)
 }
 
 // Runs the words over the current folder.
-fn run(rt: &HostRuntime, words: &[String]) -> Result<Status, AllocError> {
+fn run(rt: &HostRuntime, words: &[String]) -> Result<Status, AllocError>
+    ensures unasked { asked (map string_bytes words.now) ≡ None → IfOk result IsRefused }
+{
     let alloc = rt.alloc();
     let mut files = Folder::here(alloc, rt.clone()?);
     let mut keep = Folder::here(alloc, rt.clone()?);
