@@ -20,7 +20,15 @@ pub(crate) fn answer_survey<O: Outlet>(alloc: Global, recipe: &Recipe, out: &mut
     let Ok(found) = survey(alloc, recipe) else {
         return Status::Memory;
     };
-    match write_survey(alloc, found.files, found.tiles, found.listed, found.contents, found.more, out) {
+    match write_survey(
+        alloc,
+        found.files,
+        found.tiles,
+        found.listed,
+        found.contents,
+        found.more,
+        out,
+    ) {
         Ok(()) => Status::Done,
         Err(GiveFault::WriteFault) => Status::WriteFault,
         Err(GiveFault::Memory) => Status::Memory,

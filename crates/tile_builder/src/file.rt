@@ -42,7 +42,12 @@ impl MadeFile {
     {
         self.name.clear();
         let coordinates = [root.x, root.y, root.z];
-        layout.subtree.fill(layout.scheme.axes(), root.level, coordinates, &mut self.name)?;
+        layout.subtree.fill(
+            layout.scheme.axes(),
+            root.level,
+            coordinates,
+            &mut self.name,
+        )?;
         let subtree = made_subtree(alloc, layout, words, root)?;
         self.bytes.clear();
         encode(alloc, &subtree, &mut self.bytes)
