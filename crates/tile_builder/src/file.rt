@@ -1,5 +1,5 @@
 // The file of one subtree, made in memory that is used again for the next.
-ghost use Rattle.std.specs.Prelude.{◌≡◌, OnOk, string_bytes};
+ghost use Rattle.std.specs.Prelude.{◌≡◌, [], OnOk, string_bytes};
 ghost use Rattle.implicit_tileset.specs.Scene.{subtree_name};
 ghost use Rattle.subtree_write.specs.Canonical.{canonical};
 ghost use Rattle.build_laws.specs.Holds.{AreWordsOf};
@@ -20,7 +20,10 @@ pub(crate) struct MadeFile {
 }
 
 impl MadeFile {
-    pub fn new(alloc: Global) -> MadeFile {
+    pub fn new(alloc: Global) -> MadeFile
+        ensures name { string_bytes result.name ≡ [] }
+        ensures bytes { result.bytes.items ≡ [] }
+    {
         MadeFile {
             name: String::new(alloc),
             bytes: Vec::new(alloc),
