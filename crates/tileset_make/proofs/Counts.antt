@@ -1,11 +1,10 @@
 -- How many files a tileset has.
-use Rattle.std.proofs.Common.{◌≡◌, ℕ, ◌+◌, ◌≤◌, List, [], ◌∷◌, ◌∙◌, length, codes, map, length-append, arith, ap, refl}
+use Rattle.std.proofs.Common.{◌≡◌, ℕ, ◌+◌, ◌≤◌, List, [], ◌∷◌, ◌∙◌, length, codes, length-append, arith, ap, refl}
 use Rattle.std.specs.Prelude.{not}
 use Rattle.std.proofs.lemmas.List.{length-map}
 use Rattle.std.proofs.lemmas.List.Filters.{length-filter_both}
 use Rattle.implicit_tiling.specs.Availability.{is_subtree_root}
 use Rattle.implicit_tiling.specs.Scene.{Layout}
-use Rattle.implicit_tiling.specs.Tile.{Tile}
 use Rattle.implicit_tileset.specs.Scene.{subtree_name}
 use Rattle.subtree_write.specs.Canonical.{canonical}
 use Rattle.tileset_write.specs.LayoutText.{layout_text}

@@ -1,12 +1,12 @@
 -- The layout of a recipe keeps to the limits, and its templates are templates.
-use Rattle.std.proofs.Common.{◌≤◌, ◌+◌, ◌<◌, ℕ, arith, length}
-use Rattle.std.specs.List.{All, range_with_len}
+use Rattle.std.proofs.Common.{arith}
+use Rattle.std.specs.List.{range_with_len}
 use Rattle.std.proofs.lemmas.List.Elements.{All-map}
 use Rattle.std.proofs.lemmas.List.FromFn.{length-map-range_with_len}
 use Rattle.walk_laws.proofs.Lists.{of_range}
 use Rattle.tileset_write.specs.LayoutText.{IsTemplateText, IsLayout}
 use Rattle.tileset_make.specs.declared.recipe.Recipe.{Recipe}
-use Rattle.tileset_make.specs.Recipes.{content_template, content_templates, recipe_layout}
+use Rattle.tileset_make.specs.Recipes.{content_template, recipe_layout}
 use Rattle.tileset_make.proofs.Templates.{subtree_is_template, content_is_template}
 
 pub recipe_has_layout : (r : Recipe) → IsLayout (recipe_layout r)

@@ -1,4 +1,5 @@
 pub mod Templates
+pub mod Rows
 pub mod Layouts
 pub mod Decimals
 pub mod Names

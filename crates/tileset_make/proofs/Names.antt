@@ -1,15 +1,15 @@
 -- The names of a recipe's subtree files are distinct, and none of them is `tileset.json`.
-use Rattle.std.proofs.Common.{zero, suc, Bool, ◌+◌, ◌≡◌, ◌≢◌, ℕ, ◌<◌, ◌≤◌, ◌^◌, true, List, [], ◌∷◌, ◌++◌, map, codes, refl, sym, ap, ◌∙◌, subst, arith, lit<, lit≤, get_or}
-use Rattle.std.specs.Prelude.{filter, is_some, None, slice_index_or}
+use Rattle.std.proofs.Common.{zero, suc, Bool, ◌≡◌, ◌≢◌, ℕ, ◌<◌, ◌≤◌, ◌^◌, true, List, [], ◌∷◌, ◌++◌, map, codes, refl, sym, ap, ◌∙◌, subst, arith, lit<, lit≤, get_or}
+use Rattle.std.specs.Prelude.{filter, is_some, None}
 use Rattle.std.specs.List.{All, AllPairs}
 use Rattle.std.specs.Fmt.{decimal}
 use Rattle.std.proofs.Math.Nat.{pow-le-pow_right}
-use Rattle.std.proofs.lemmas.List.Elements.{All-head, All-tail, All-cons, All-nil, All-filter, All-map, All-weaker}
+use Rattle.std.proofs.lemmas.List.Elements.{All-head, All-tail, All-filter, All-map, All-weaker}
 use Rattle.std.proofs.lemmas.List.Kept.{AllPairs-filter}
 use Rattle.implicit_tiling.specs.declared.Scheme.{Scheme}
 use Rattle.implicit_tiling.specs.declared.Scheme.TheVariants.{Quad, Oct}
 use Rattle.implicit_tiling.specs.Limits.{most_levels}
-use Rattle.implicit_tiling.specs.Files.{Files, file}
+use Rattle.implicit_tiling.specs.Files.{file}
 use Rattle.implicit_tiling.specs.Tile.{Tile, is_key_below}
 use Rattle.implicit_tiling.specs.Scene.{Layout}
 use Rattle.implicit_tiling.specs.Template.{filled}

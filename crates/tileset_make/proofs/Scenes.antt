@@ -1,6 +1,6 @@
 -- Scenes of files that are looked up alike.
 use Rattle.std.proofs.Common.{◌≡◌, ◌≢◌, ℕ, List, codes, ap, sym, subst, ◌∙◌}
-use Rattle.std.specs.Prelude.{Some, Ok}
+use Rattle.std.specs.Prelude.{Ok}
 use Rattle.implicit_tiling.specs.Checks.{need}
 use Rattle.implicit_tiling.specs.Files.{Files, file}
 use Rattle.implicit_tiling.specs.Tile.{Tile}

@@ -1,8 +1,9 @@
 -- What the walk over the region of all tiles of a recipe finds.
-use Rattle.std.proofs.Common.{◌≡◌, ◌≢◌, ℕ, Bool, true, false, nat_lt, List, [], ◌∷◌, length, take, map, refl, sym, ap, ap₂, subst, ◌∙◌, get_or}
+use Rattle.std.proofs.Common.{◌≡◌, ℕ, Bool, true, false, nat_lt, List, [], ◌∷◌, length, take, map, refl, sym, ap, ap₂, ◌∙◌, get_or}
+use Rattle.std.specs.Prelude.{◌↔◌}
 use Rattle.std.specs.List.{All}
 use Rattle.std.proofs.lemmas.List.{take-map}
-use Rattle.std.proofs.lemmas.List.Elements.{All-take, All-head, All-tail}
+use Rattle.std.proofs.lemmas.List.Elements.{All-head, All-tail}
 use Rattle.implicit_tiling.specs.declared.Scheme.{Scheme}
 use Rattle.implicit_tiling.specs.Answer.{complete, too_many, fault, most_tiles, Answer}
 use Rattle.implicit_tiling.specs.Code.{word, word_tile}
@@ -49,14 +50,15 @@ is_cut Complete = false
 is_cut TooMany = true
 is_cut (Fault root number) = false
 
-pub cut_at : (end : WalkEnd) → end ≡ TooMany → is_cut end ≡ true
-cut_at end e = ap is_cut e
-
-pub uncut_at : (end : WalkEnd) → end ≢ TooMany → is_cut end ≡ false
-uncut_at Partial never = refl
-uncut_at Complete never = refl
-uncut_at TooMany never = absurd (never refl)
-uncut_at (Fault root number) never = refl
+-- a test that decides it
+pub cut_if : (end : WalkEnd) (b : Bool) → (b ≡ true) ↔ (end ≡ TooMany) → b ≡ is_cut end
+cut_if Partial true h = let impossible : Partial ≡ TooMany = h.0 refl in absurd (cc)
+cut_if Partial false h = refl
+cut_if Complete true h = let impossible : Complete ≡ TooMany = h.0 refl in absurd (cc)
+cut_if Complete false h = refl
+cut_if TooMany b h = h.1 refl
+cut_if (Fault root number) true h = let impossible : Fault root number ≡ TooMany = h.0 refl in absurd (cc)
+cut_if (Fault root number) false h = refl
 
 ends_so : (scheme : Scheme) (end : WalkEnd) (more : Bool) → end_seen scheme end ≡ ended (end_after more) → is_cut end ≡ more
 ends_so scheme Partial more e = let impossible : partial ≡ ended (end_after more) = e in absurd (cc)

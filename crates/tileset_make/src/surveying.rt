@@ -1,5 +1,5 @@
 // Surveys of recipes.
-ghost use Rattle.std.specs.Prelude.{◌≡◌, ◌≤◌, length, sum_by, count_ones, IfOk, IfSome, IsSome};
+ghost use Rattle.std.specs.Prelude.{◌≡◌, ◌≤◌, ◌↔◌, length, sum_by, count_ones, IfOk, IfSome, IsSome, IsTrue};
 ghost use Rattle.std.specs.List.{All};
 ghost use Rattle.implicit_tiling.specs.Answer.{most_tiles};
 ghost use Rattle.implicit_tiling.specs.Limits.{most_contents};
@@ -40,7 +40,7 @@ pub fn survey(alloc: Global, recipe: &Recipe) -> Result<Survey, AllocError>
         tiles: built.tiles,
         listed: words.len() as u64,
         contents: count_contents(recipe.scheme, &words),
-        more: matches!(end, WalkEnd::TooMany),
+        more: is_cut(end),
     })
 }
 
@@ -100,6 +100,13 @@ fn whole_plan(layout: &Layout) -> Plan
             hi: [last, last, depth],
         },
     }
+}
+
+// Whether an answer ends at the most tiles, with more behind them.
+fn is_cut(end: WalkEnd) -> bool
+    ensures { IsTrue result ↔ (end ≡ WalkEnd.TooMany) }
+{
+    matches!(end, WalkEnd::TooMany)
 }
 
 // The contents of the tiles of some words.

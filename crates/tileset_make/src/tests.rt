@@ -71,14 +71,14 @@ fn surveys(rt: HostRuntime) -> Result<(), Fail> {
         ),
         (
             Recipe {
-                scheme: Scheme::Quad,
-                levels: 26,
+                scheme: Scheme::Oct,
+                levels: 18,
                 subtree_levels: 4,
-                contents: 2,
-                points: 4000,
-                number: 12345,
+                contents: 8,
+                points: 20,
+                number: 4294967295,
             },
-            counted(17984, 71003, 65536, 98584, true),
+            counted(81, 321, 321, 839, false),
         ),
     ];
     for (recipe, wanted) in rows {

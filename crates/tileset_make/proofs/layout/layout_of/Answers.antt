@@ -1,4 +1,4 @@
-use Rattle.std.proofs.Common.{◌∙◌, ℕ, List, ◌≤◌, ap, arith, length}
+use Rattle.std.proofs.Common.{ℕ, List, ap, arith, length}
 use Rattle.std.proofs.lemmas.List.FromFn.{length-map-range_with_len}
 use Rattle.tileset_make.specs.Recipes.{content_template}
 use Rattle.tileset_make.proofs.layout.layout_of.Goals as goal

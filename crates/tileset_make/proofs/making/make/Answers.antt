@@ -1,4 +1,4 @@
-use Rattle.std.proofs.Common.{◌≡◌, ◌≢◌, codes, ◌<◌, ◌^◌, ℕ, List, length, ap, sym, subst, ◌∙◌}
+use Rattle.std.proofs.Common.{◌≡◌, ◌≢◌, codes, ◌<◌, ◌^◌, length, ap, sym, subst, ◌∙◌}
 use Rattle.std.specs.List.{All}
 use Rattle.std.proofs.lemmas.List.FromFn.{length-map-range_with_len}
 use Rattle.std.proofs.lemmas.Result.{err_from_is_err_and}
@@ -13,7 +13,7 @@ use Rattle.implicit_tiling.specs.Tile.{Tile}
 use Rattle.implicit_tileset.specs.Scene.{subtree_name}
 use Rattle.tile_occupancy.specs.Occupied.{Occupancy, IsOccupancy}
 use Rattle.tileset_make.specs.declared.recipe.Recipe.{Recipe}
-use Rattle.tileset_make.specs.Recipes.{recipe_layout, recipe_words, recipe_files, content_template}
+use Rattle.tileset_make.specs.Recipes.{recipe_words, recipe_files, content_template}
 use Rattle.tileset_make.proofs.Layouts.{recipe_has_layout}
 use Rattle.tileset_make.proofs.Names.{never_tileset, made_files_distinct, recipe_files_distinct}
 use Rattle.tileset_make.proofs.Puts.{told_same, stopped_at_once, err_exit, if_ok}

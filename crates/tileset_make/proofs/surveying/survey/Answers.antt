@@ -1,4 +1,4 @@
-use Rattle.std.proofs.Common.{◌≡◌, ℕ, Bool, nat_lt, take, arith, length, count_ones, sym, ap, subst, ◌∙◌}
+use Rattle.std.proofs.Common.{◌≡◌, ℕ, take, arith, length, count_ones, ap, subst, ◌∙◌}
 use Rattle.std.specs.Prelude.{sum_by}
 use Rattle.implicit_tiling.specs.Answer.{most_tiles}
 use Rattle.implicit_tiling.specs.Code.{word_mask}
@@ -8,9 +8,8 @@ use Rattle.walk_laws.specs.Regions.{whole}
 use Rattle.scene_ports.specs.Files.{files_of}
 use Rattle.tile_walk.specs.Walks.{IsAnswer}
 use Rattle.tileset_make.specs.Recipes.{recipe_layout, recipe_words}
-use Rattle.tileset_make.proofs.Surveyed.{found, is_cut, cut_at, uncut_at}
+use Rattle.tileset_make.proofs.Surveyed.{found, cut_if}
 use Rattle.tileset_make.proofs.surveying.survey.Goals as goal
-use Rattle.tileset_make.proofs.surveying.survey.Goals.{in-TooMany, in_default}
 
 pub returns : goal.returns
 returns c =
@@ -21,11 +20,7 @@ returns c =
     let end = c.in_ok-words.end in
     let P : Layout → Type 0 = λ l. IsAnswer (scene_of all l) (whole l.scheme l.levels) words end in
     let finds = found (scene_of all (recipe_layout r)) ws words end c.in_ok-built.ensures.whole c.in_ok-built.ensures.holds (subst P c.in_ok-layout.ensures c.in_ok-words.ensures.answer) in
-    let more : c.match-matches.matches ≡ nat_lt most_tiles (length ws) =
-    elim c.match-matches.branch [
-      | in-TooMany w ↦ w.matches-is ∙ sym (cut_at end w.in-TooMany.is) ∙ finds.more_is
-      | in_default w ↦ w.matches-is ∙ sym (uncut_at end w.in_default.not-TooMany) ∙ finds.more_is
-    ] in
+    let more = cut_if end c.is_cut.result c.is_cut.ensures ∙ finds.more_is in
     let same = c.deref.ensures.value ∙ finds.words_are in
     let listed : c.len.result ≡ length (take most_tiles ws) = omega (arith, c.len.ensures, c.deref.ensures.len, ap (length {A = ℕ}) same) in
     let contents = c.count_contents.ensures ∙ ap (sum_by (λ w. count_ones (word_mask w))) same in

@@ -1,7 +1,6 @@
-use Rattle.std.proofs.Common.{Ok, ℕ, length, ◌≡◌, ◌≤◌, lit≤, ◌+◌, ◌++◌, ◌∷◌, [], codes, ap, sym, ◌∙◌, arith}
-use Rattle.std.specs.Prelude.{Result, Err}
+use Rattle.std.proofs.Common.{Ok, ℕ, length, ◌≡◌, ◌≤◌, lit≤, ◌+◌, ◌∷◌, [], codes, ap, sym, ◌∙◌, arith}
+use Rattle.std.specs.Prelude.{Err}
 use Rattle.std.proofs.lemmas.Result.{err_from_is_err_and}
-use Rattle.implicit_tiling.specs.Files.{Files}
 use Rattle.implicit_tileset.specs.Scene.{layout_in, scene_of}
 use Rattle.scene_ports.specs.Keeper.{Puts}
 use Rattle.scene_ports.specs.declared.keeper.Put.TheVariants.{Kept}
