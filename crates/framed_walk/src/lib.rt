@@ -9,3 +9,5 @@ pub use walk::framed;
 
 #[cfg(test)]
 mod tests;
+#[cfg(test)]
+mod worked_walks;
