@@ -1,5 +1,5 @@
 //! Times of the inner loops of the layers. Checksums go to standard output, and times to standard error, where
-//! nothing compares them. `bench/run` times the same loops in plain Rust beside them.
+//! nothing compares them. `bench/loops` times the same loops in plain Rust beside them.
 #![tactic(auto)]
 
 use std::io;

@@ -1,9 +1,9 @@
-// The loops of `crates/bench/src/frame_loops.rt` in plain Rust: the frame of each key stands in a `HashMap`, and the order
-// of the frames is linked by two vectors of numbers. The map hashes by a folded product, as that of Rattle does.
+//! The loops of `crates/bench/src/frame_loops.rt` in plain Rust: the frame of each key stands in a `HashMap`, and the order
+//! of the frames is linked by two vectors of numbers. The map hashes by a folded product, as that of Rattle does.
+use plain::timed;
 use std::collections::HashMap;
 use std::hash::{BuildHasherDefault, Hasher};
 use std::hint::black_box;
-use std::time::Instant;
 
 const FRAMES: usize = 1024;
 const CALLS: u64 = 10_000_000;
@@ -179,15 +179,7 @@ fn sum_of_frames(calls: u64, keys: u64) -> u64 {
     sum
 }
 
-fn timed(name: &str, keys: u64) {
-    let start = Instant::now();
-    let checksum = sum_of_frames(black_box(CALLS), black_box(keys));
-    let time = start.elapsed();
-    println!("{name} {checksum}");
-    eprintln!("{name} {}", time.as_micros());
-}
-
 fn main() {
-    timed("frame_hits", FRAMES as u64);
-    timed("frame_misses", 2 * FRAMES as u64);
+    timed("frame_hits", None, || sum_of_frames(black_box(CALLS), black_box(FRAMES as u64)));
+    timed("frame_misses", None, || sum_of_frames(black_box(CALLS), black_box(2 * FRAMES as u64)));
 }

@@ -1,6 +1,7 @@
-// The loops of `crates/bench/src/turn_loops.rt` in plain Rust, with `std::sync::Mutex`.
+//! The loops of `crates/bench/src/turn_loops.rt` in plain Rust, with `std::sync::Mutex`.
+use plain::timed;
+use std::hint::black_box;
 use std::sync::Mutex;
-use std::time::Instant;
 
 const TURNS: u64 = 8_000_000;
 
@@ -28,15 +29,7 @@ fn by_four(turns: u64) -> u64 {
     count(&counter, 1)
 }
 
-fn timed(name: &str, work: impl Fn(u64) -> u64) {
-    let start = Instant::now();
-    let checksum = work(std::hint::black_box(TURNS));
-    let time = start.elapsed();
-    println!("{name} {checksum}");
-    eprintln!("{name} {}", time.as_micros());
-}
-
 fn main() {
-    timed("turns1", by_one);
-    timed("turns4", by_four);
+    timed("turns1", None, || by_one(black_box(TURNS)));
+    timed("turns4", None, || by_four(black_box(TURNS)));
 }

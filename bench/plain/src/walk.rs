@@ -1,0 +1,254 @@
+//! The walks over a tileset whose `tileset.json` has no fault: `tiles` and `check`. Each subtree file is read once.
+use crate::subtree::{decode, Subtree};
+use crate::tileset::{Layout, Template};
+use crate::tree::{Region, Scheme};
+use std::collections::HashMap;
+use std::io::{ErrorKind, Write};
+use std::{fs, io};
+
+const MOST_TILES: usize = 65536;
+const MOST_ROOTS: usize = 65536;
+const MOST_BYTES: u64 = 16_777_216;
+const PIECE: usize = 32768;
+
+/// Where files come from. The inner error is the fault of a file that is missing or too long.
+pub trait Files {
+    fn fetch(&self, name: &str) -> io::Result<Result<Vec<u8>, u64>>;
+}
+
+/// The current folder.
+pub struct Folder;
+
+impl Files for Folder {
+    fn fetch(&self, name: &str) -> io::Result<Result<Vec<u8>, u64>> {
+        match fs::metadata(name) {
+            Ok(data) if data.len() > MOST_BYTES => Ok(Err(2)),
+            Ok(_) => fs::read(name).map(Ok),
+            Err(error) if error.kind() == ErrorKind::NotFound => Ok(Err(1)),
+            Err(error) => Err(error),
+        }
+    }
+}
+
+impl Files for HashMap<String, Vec<u8>> {
+    fn fetch(&self, name: &str) -> io::Result<Result<Vec<u8>, u64>> {
+        Ok(self.get(name).cloned().ok_or(1))
+    }
+}
+
+#[derive(Clone, Copy)]
+pub struct Node {
+    index: u64,
+    coordinates: [u32; 3],
+}
+
+impl Node {
+    const ROOT: Node = Node { index: 0, coordinates: [0; 3] };
+
+    fn children(self, scheme: Scheme) -> impl Iterator<Item = Node> {
+        (0..scheme.nodes_at(1)).map(move |child| Node {
+            index: self.index << scheme.axes() | child,
+            coordinates: [0, 1, 2].map(|axis| 2 * self.coordinates[axis] + (child >> axis & 1) as u32),
+        })
+    }
+}
+
+// A subtree on the walk, and its tiles of one local level.
+struct Walked {
+    root: Node,
+    subtree: Subtree,
+    nodes: Vec<Node>,
+}
+
+#[derive(Clone, Copy)]
+pub enum End {
+    Complete,
+    TooMany,
+    Fault { number: u64, level: u32, root: Node },
+}
+
+pub struct Scene<F> {
+    files: F,
+    layout: Layout,
+    subtree: Template,
+    contents: Vec<Template>,
+}
+
+impl<F: Files> Scene<F> {
+    pub fn open(files: F) -> io::Result<Scene<F>> {
+        let bytes = files.fetch("tileset.json")?.expect("a tileset.json");
+        let layout = Layout::read(&bytes).expect("a layout");
+        let axes = layout.scheme.axes();
+        Ok(Scene {
+            files,
+            subtree: Template::new(axes, &layout.subtree),
+            contents: layout.contents.iter().map(|content| Template::new(axes, content)).collect(),
+            layout,
+        })
+    }
+
+    pub fn scheme(&self) -> Scheme {
+        self.layout.scheme
+    }
+
+    fn read(&self, level: u32, root: Node) -> io::Result<Result<Subtree, u64>> {
+        let mut name = String::new();
+        self.subtree.fill(level, root.coordinates, &mut name);
+        Ok(self.files.fetch(&name)?.and_then(|bytes| decode(&self.layout, level, &bytes)))
+    }
+
+    // The subtrees of these roots, up to the first faulty one, whose fault comes behind them.
+    fn read_all(&self, level: u32, roots: &[Node]) -> io::Result<(Vec<Walked>, Option<End>)> {
+        let mut all = Vec::with_capacity(roots.len());
+        for &root in roots {
+            match self.read(level, root)? {
+                Ok(subtree) => {
+                    let nodes = if subtree.tiles.get(0) { vec![Node { index: 0, ..root }] } else { Vec::new() };
+                    all.push(Walked { root, subtree, nodes });
+                }
+                Err(number) => return Ok((all, Some(End::Fault { number, level, root }))),
+            }
+        }
+        Ok((all, None))
+    }
+
+    /// Gives each tile of the region in key order, and answers how the walk ends. A tile is given with its level, its node and a
+    /// bit for each of its contents.
+    pub fn walk(&self, region: &Region, mut give: impl FnMut(u32, [u32; 3], u8) -> io::Result<()>) -> io::Result<End> {
+        let levels = self.layout.subtree_levels;
+        let (mut level, mut found) = (0, 0);
+        let mut roots = vec![Node::ROOT];
+        while level <= region.level && level < self.layout.levels && !roots.is_empty() {
+            let (mut all, fault) = self.read_all(level, &roots)?;
+            for local in 0..levels.min(region.level + 1 - level) {
+                for walked in &mut all {
+                    if local > 0 {
+                        self.go_down(region, level + local, local, walked);
+                    }
+                    let above = self.scheme().nodes_above(local);
+                    for node in &walked.nodes {
+                        if found == MOST_TILES {
+                            return Ok(End::TooMany);
+                        }
+                        give(level + local, node.coordinates, mask(&walked.subtree, above + node.index))?;
+                        found += 1;
+                    }
+                }
+                if let Some(end) = fault {
+                    return Ok(end);
+                }
+            }
+            level += levels;
+            roots = if level <= region.level { self.child_roots(region, level, &all) } else { Vec::new() };
+        }
+        Ok(End::Complete)
+    }
+
+    // From the tiles of one local level to those of the next one.
+    fn go_down(&self, region: &Region, level: u32, local: u32, walked: &mut Walked) {
+        let above = self.scheme().nodes_above(local);
+        let is_there = |node: &Node| walked.subtree.tiles.get(above + node.index) && region.meets(level, node.coordinates);
+        walked.nodes = walked.nodes.iter().flat_map(|node| node.children(self.scheme())).filter(is_there).collect();
+    }
+
+    fn child_roots(&self, region: &Region, level: u32, all: &[Walked]) -> Vec<Node> {
+        let depth = self.scheme().axes() * self.layout.subtree_levels;
+        let mut roots = Vec::new();
+        for Walked { root, subtree, nodes } in all {
+            let children = nodes.iter().flat_map(|node| node.children(self.scheme()));
+            let found = children.filter(|child| subtree.child.get(child.index) && region.meets(level, child.coordinates));
+            roots.extend(found.map(|child| Node { index: root.index << depth | child.index, ..child }));
+        }
+        roots
+    }
+
+    /// The text of `view tiles`.
+    pub fn tiles(&self, region: &Region) -> io::Result<()> {
+        let mut stdout = io::stdout().lock();
+        let mut text = String::with_capacity(2 * PIECE);
+        let mut found = 0;
+        let end = self.walk(region, |level, coordinates, mask| {
+            self.append_line(level, coordinates, mask, &mut text);
+            found += 1;
+            if text.len() >= PIECE {
+                stdout.write_all(text.as_bytes())?;
+                text.clear();
+            }
+            Ok(())
+        })?;
+        text.push_str(&match end {
+            End::Complete => format!("end\tcomplete\t{found}\n"),
+            End::TooMany => format!("end\ttoo-many\t{found}\n"),
+            End::Fault { number, level, root } => format!("end\tfault\t{found}\t{number}\t{level}{}\n", self.listed(root)),
+        });
+        stdout.write_all(text.as_bytes())
+    }
+
+    fn append_line(&self, level: u32, coordinates: [u32; 3], mask: u8, text: &mut String) {
+        let mut buffer = itoa::Buffer::new();
+        text.push_str(buffer.format(level));
+        for coordinate in &coordinates[..self.scheme().axes() as usize] {
+            text.push('\t');
+            text.push_str(buffer.format(*coordinate));
+        }
+        for (place, template) in self.contents.iter().enumerate() {
+            if mask >> place & 1 == 1 {
+                text.push('\t');
+                template.fill(level, coordinates, text);
+            }
+        }
+        text.push('\n');
+    }
+
+    fn listed(&self, root: Node) -> String {
+        root.coordinates[..self.scheme().axes() as usize].iter().map(|coordinate| format!("\t{coordinate}")).collect()
+    }
+
+    /// The text of `view check`.
+    pub fn check(&self) -> io::Result<()> {
+        let levels = self.layout.subtree_levels;
+        let mut text = String::new();
+        let mut roots = vec![Node::ROOT];
+        let (mut looked, mut faults, mut level, mut more) = (0, 0, 0, false);
+        'check: while !roots.is_empty() {
+            let mut next = Vec::new();
+            for root in roots {
+                if looked == MOST_ROOTS {
+                    more = true;
+                    break 'check;
+                }
+                looked += 1;
+                match self.read(level, root)? {
+                    Ok(subtree) if level + levels < self.layout.levels => self.append_roots(root, &subtree, &mut next),
+                    Ok(_) => {}
+                    Err(number) => {
+                        faults += 1;
+                        text.push_str(&format!("fault\t{number}\t{level}{}\n", self.listed(root)));
+                    }
+                }
+            }
+            roots = next;
+            level += levels;
+        }
+        text.push_str(&format!("end\t{}\t{looked}\t{faults}\n", if more { "too-many" } else { "checked" }));
+        io::stdout().lock().write_all(text.as_bytes())
+    }
+
+    fn append_roots(&self, root: Node, subtree: &Subtree, roots: &mut Vec<Node>) {
+        let (scheme, levels) = (self.scheme(), self.layout.subtree_levels);
+        let last = scheme.nodes_above(levels - 1);
+        let mut from = 0;
+        while let Some(child) = subtree.child.next_one(from, scheme.nodes_at(levels)) {
+            if subtree.tiles.get(last + (child >> scheme.axes())) {
+                let index = root.index << (scheme.axes() * levels) | child;
+                roots.push(Node { index, coordinates: scheme.coordinates(index) });
+            }
+            from = child + 1;
+        }
+    }
+}
+
+// A bit for each content of a node.
+fn mask(subtree: &Subtree, place: u64) -> u8 {
+    subtree.contents.iter().enumerate().map(|(content, bits)| u8::from(bits.get(place)) << content).sum()
+}
