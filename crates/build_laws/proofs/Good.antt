@@ -10,7 +10,8 @@ use Rattle.implicit_tiling.specs.declared.Scheme.{Scheme}
 use Rattle.implicit_tiling.specs.Tile.{Tile, branching}
 use Rattle.implicit_tiling.specs.Scene.{Layout}
 use Rattle.implicit_tiling.specs.Availability.{local_level, nodes_above, place}
-use Rattle.implicit_tiling.specs.Subtree.{IsSubtree, bit_at, is_kept, node_bit, has_tile, some_node, has_orphan, has_content_alone, node_count}
+use Rattle.implicit_tiling.specs.Subtree.{IsSubtree, is_kept, node_bit, has_tile, some_node, has_orphan, has_content_alone, node_count}
+use Rattle.implicit_tiling.specs.Bits.{bit_at}
 use Rattle.walk_laws.proofs.Lists.{of_range}
 use Rattle.walk_laws.proofs.Runs.{below, below_level}
 use Rattle.walk_laws.proofs.Plain.{below_parent, parent_fits}
