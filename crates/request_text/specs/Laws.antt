@@ -11,7 +11,8 @@ use Rattle.implicit_tiling.specs.Steps.{ended}
 use Rattle.implicit_tiling.specs.Text.{answer_text, words_text, checked_text}
 use Rattle.implicit_tiling.specs.Checked.{checked}
 use Rattle.implicit_tiling.specs.Request.{line_of, line_of_words}
-use Rattle.request_text.specs.Found.{found_of, end_of_check, found_text}
+use Rattle.request_text.specs.Found.{end_of_check, found_text}
+use Rattle.tile_coords.specs.Found.{found_of}
 
 -- within the limits, the text by the words of the answer's tiles is the text of the answer
 abbrev pub WordsMakeTheText : Type 0
