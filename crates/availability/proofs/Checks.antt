@@ -9,7 +9,8 @@ use Rattle.std.proofs.lemmas.List.FromFn.{length-range_with_len, get_or-range_wi
 use Rattle.implicit_tiling.specs.declared.Scheme.{Scheme}
 use Rattle.implicit_tiling.specs.Tile.{branching}
 use Rattle.implicit_tiling.specs.Availability.{nodes_above}
-use Rattle.implicit_tiling.specs.Subtree.{Subtree, IsSubtree, bit_at, is_kept, node_bit, has_tile, some_node, has_orphan, has_content_alone}
+use Rattle.implicit_tiling.specs.Subtree.{Subtree, IsSubtree, is_kept, node_bit, has_tile, some_node, has_orphan, has_content_alone}
+use Rattle.implicit_tiling.specs.Bits.{bit_at}
 use Rattle.availability.specs.Rules.{IsKeptCount, raw_bit, raw_orphan}
 use Rattle.bitstream.specs.Bits.{ones_of}
 use Rattle.bitstream.proofs.Full.{all_true}

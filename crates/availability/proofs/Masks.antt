@@ -6,7 +6,8 @@ use Rattle.std.proofs.Math.Nat.{pow-suc}
 use Rattle.std.proofs.lemmas.Nat.{or_comm, or_shifted, shl_whole}
 use Rattle.std.proofs.lemmas.List.{map-append, length-map, length-take-le, take_more}
 use Rattle.implicit_tiling.specs.Availability.{nodes_above}
-use Rattle.implicit_tiling.specs.Subtree.{Subtree, bit_at, is_kept, mask_of_bits, contents_mask}
+use Rattle.implicit_tiling.specs.Subtree.{Subtree, is_kept, mask_of_bits, contents_mask}
+use Rattle.implicit_tiling.specs.Bits.{bit_at}
 
 abbrev pub digit : Bool → ℕ
 digit true = 1

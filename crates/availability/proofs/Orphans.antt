@@ -7,7 +7,7 @@ use Rattle.implicit_tiling.specs.declared.Scheme.{Scheme}
 use Rattle.implicit_tiling.specs.declared.Scheme.TheVariants.{Quad, Oct}
 use Rattle.implicit_tiling.specs.Tile.{axes, branching}
 use Rattle.implicit_tiling.specs.Availability.{nodes_above}
-use Rattle.implicit_tiling.specs.Subtree.{bit_at}
+use Rattle.implicit_tiling.specs.Bits.{bit_at}
 use Rattle.bitstream.specs.Bits.{HasNoOne}
 use Rattle.availability.specs.Rules.{raw_bit, raw_orphan}
 use Rattle.availability.proofs.Places.{place_below}

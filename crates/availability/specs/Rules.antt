@@ -3,7 +3,8 @@ use Rattle.std.specs.Prelude.{ℕ, ◌≡◌, ◌+◌, ◌-◌, ◌/◌, ◌^◌
 use Rattle.implicit_tiling.specs.declared.Scheme.{Scheme}
 use Rattle.implicit_tiling.specs.Tile.{branching}
 use Rattle.implicit_tiling.specs.Availability.{nodes_above}
-use Rattle.implicit_tiling.specs.Subtree.{Subtree, bit_at, has_orphan, has_content_alone}
+use Rattle.implicit_tiling.specs.Subtree.{Subtree, has_orphan, has_content_alone}
+use Rattle.implicit_tiling.specs.Bits.{bit_at}
 use Rattle.availability.specs.declared.subtree.RuleFault.{RuleFault}
 use Rattle.availability.specs.declared.subtree.RuleFault.TheVariants.{ParentMissing, ContentWithoutTile}
 

@@ -3,7 +3,8 @@ ghost use Rattle.std.specs.Prelude.{◌≡◌, ◌<◌, ◌≤◌, ◌+◌, leng
 ghost use Rattle.std.specs.List.{All};
 ghost use Rattle.implicit_tiling.specs.Limits.{most_subtree_levels, most_contents};
 ghost use Rattle.implicit_tiling.specs.Availability.{nodes_above as nodes_above_of};
-ghost use Rattle.implicit_tiling.specs.Subtree.{bit_at, mask_of_bits};
+ghost use Rattle.implicit_tiling.specs.Subtree.{mask_of_bits};
+ghost use Rattle.implicit_tiling.specs.Bits.{bit_at};
 ghost use Rattle.availability.specs.Rules.{HasOrphanAt};
 
 use crate::nodes::{nodes_above, nodes_at};

@@ -6,7 +6,8 @@ use Rattle.std.proofs.lemmas.Bool.{cases_lt, cases_eq, eq-eqb, eqb-true, ne_eqb}
 use Rattle.std.proofs.Math.Nat.{pos_of_ne-zero}
 use Rattle.std.proofs.lemmas.Nat.{one_shl, and_le_l}
 use Rattle.std.proofs.lemmas.Nat.Bits.{bit_at_and, bit_at_not, bit_at_ones, bit_at_ones_above, bit_at-zero, bit_at-lt, bit_at-trailing_zeros}
-use Rattle.bitstream.specs.Bits.{digit_of_bytes, bit_of_bytes, IsWithin, HasOneAlone}
+use Rattle.bitstream.specs.Bits.{IsWithin, HasOneAlone}
+use Rattle.implicit_tiling.specs.Bits.{bit_of_bytes, digit_of_bytes}
 
 -- of the first n digits each that is 1 is 1 in the other ones too, or one of them is not
 abbrev pub KeepsTo : (ℕ → ℕ) → (ℕ → ℕ) → ℕ → Type 0

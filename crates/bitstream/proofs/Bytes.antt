@@ -7,7 +7,8 @@ use Rattle.std.proofs.lemmas.Nat.{mod_below, pow_pos, div-add-mod'}
 use Rattle.std.proofs.lemmas.Nat.Bits.{bit_at_cat_low, bit_at_cat_high, bit_at_above, same_from_bits, bit_at-zero, bit_at-lt, bit_at_ones}
 use Rattle.std.proofs.lemmas.List.{ext_get_or, get_or_past, get_or-take, get_or-append-add, set-append_right, get_or-replicate, length-replicate}
 use Rattle.std.proofs.lemmas.List.FromFn.{length-map-range_with_len, get_or-map-range_with_len}
-use Rattle.bitstream.specs.Bits.{digit_of_bytes, bit_of_bytes, bits_of_bytes, bit_at}
+use Rattle.bitstream.specs.Bits.{bits_of_bytes}
+use Rattle.implicit_tiling.specs.Bits.{bit_at, bit_of_bytes, digit_of_bytes}
 use Rattle.bitstream.specs.Bytes.{number_of_bits, bytes_filled, byte_of_bits, bytes_of_bits}
 use Rattle.bitstream.proofs.Lists.{length-bits_of_bytes, bit_at-bits_of_bytes, bit_at-replicate}
 use Rattle.bitstream.proofs.Search.{bit-take}

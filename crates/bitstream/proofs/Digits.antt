@@ -7,7 +7,7 @@ use Rattle.std.proofs.lemmas.Bool.{cases_lt}
 use Rattle.std.proofs.lemmas.Nat.Bits.{bit_at_cat_low, bit_at_cat_high, bit_at-zero}
 use Rattle.std.proofs.lemmas.List.{get_or-drop, get_or-take, get_or_past, drop-drop}
 use Rattle.std.specs.Simd.{first_chunks}
-use Rattle.bitstream.specs.Bits.{digit_of_bytes}
+use Rattle.implicit_tiling.specs.Bits.{digit_of_bytes}
 use Rattle.bitstream.specs.Words.{IsWordOf}
 
 -- ---- the word of bytes

@@ -4,7 +4,8 @@ use Rattle.std.specs.Bool.{MatchBool}
 use Rattle.std.proofs.lemmas.Bool.{cases_eq, eq-eqb, ne_eqb}
 use Rattle.std.proofs.lemmas.List.{get_or-take, length-take-le}
 use Rattle.std.proofs.lemmas.List.Sums.{sum_by-cons}
-use Rattle.bitstream.specs.Bits.{bit_at, ones_of, IsWithin, HasOneAlone}
+use Rattle.bitstream.specs.Bits.{ones_of, IsWithin, HasOneAlone}
+use Rattle.implicit_tiling.specs.Bits.{bit_at}
 use Rattle.bitstream.proofs.Lists.{bit_at-replicate}
 
 one_more : (b : Bool) (xs : List Bool) → ones_of (b ∷ xs) ≡ cond b 1 0 + ones_of xs

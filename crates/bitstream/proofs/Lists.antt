@@ -3,7 +3,8 @@ use Rattle.std.proofs.Common.{◌≡◌, ◌∙◌, ℕ, zero, suc, ◌<◌, ◌
 use Rattle.std.proofs.lemmas.List.FromFn.{length-map-range_with_len, get_or-map-range_with_len, take-map-range_with_len}
 use Rattle.std.proofs.lemmas.List.{get_or-replicate}
 use Rattle.std.proofs.lemmas.List.Sums.{sum_by-cons}
-use Rattle.bitstream.specs.Bits.{bit_of_bytes, bits_of_bytes, bit_at, ones_of}
+use Rattle.bitstream.specs.Bits.{bits_of_bytes, ones_of}
+use Rattle.implicit_tiling.specs.Bits.{bit_at, bit_of_bytes}
 
 pub length-bits_of_bytes : (bytes : List ℕ) (count : ℕ) → length (bits_of_bytes bytes count) ≡ count
 length-bits_of_bytes bytes count = length-map-range_with_len (bit_of_bytes bytes) 0 count

@@ -6,7 +6,8 @@ use Rattle.std.proofs.lemmas.Nat.{ones_le_self, zero_from_ones, ones_cat, mod-po
 use Rattle.std.proofs.lemmas.Bool.{cases_lt}
 use Rattle.std.proofs.lemmas.Nat.Bits.{bit_at-lt}
 use Rattle.std.proofs.lemmas.List.FromFn.{sum_by-map-range_with_len_more}
-use Rattle.bitstream.specs.Bits.{digit_of_bytes, bit_of_bytes, bits_of_bytes, ones_of}
+use Rattle.bitstream.specs.Bits.{bits_of_bytes, ones_of}
+use Rattle.implicit_tiling.specs.Bits.{bit_of_bytes, digit_of_bytes}
 
 -- the sum of the first n digits
 abbrev pub count_below : (ℕ → ℕ) → ℕ → ℕ

@@ -3,7 +3,7 @@ use Rattle.std.proofs.Common.{◌≡◌, ◌∙◌, ℕ, ◌+◌, ◌-◌, ◌*�
 use Rattle.std.specs.Int.{bit_at}
 use Rattle.std.specs.Simd.{first_chunks}
 use Rattle.std.proofs.lemmas.List.{take_rest}
-use Rattle.bitstream.specs.Bits.{digit_of_bytes}
+use Rattle.implicit_tiling.specs.Bits.{digit_of_bytes}
 use Rattle.bitstream.specs.Words.{IsWordOf}
 use Rattle.bitstream.proofs.Digits.{chunk_at, digit-take, digit-drop}
 

@@ -6,7 +6,8 @@ use Rattle.std.proofs.lemmas.List.{get_or-replicate}
 use Rattle.std.proofs.lemmas.List.FromFn.{fill_by_all}
 use Rattle.std.proofs.lemmas.Nat.Bits.{bit_at_set_same, bit_at_set_other, bit_at-zero}
 use Rattle.std.specs.List.{list_any}
-use Rattle.bitstream.specs.Bits.{bit_of_bytes, bits_of_bytes, bits_of_places}
+use Rattle.bitstream.specs.Bits.{bits_of_bytes, bits_of_places}
+use Rattle.implicit_tiling.specs.Bits.{bit_of_bytes}
 use Rattle.bitstream.specs.Places.{HasOnesAt}
 use Rattle.bitstream.proofs.Lists.{length-bits_of_bytes, bit_at-bits_of_bytes}
 

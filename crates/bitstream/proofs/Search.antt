@@ -4,7 +4,8 @@ use Rattle.std.specs.Int.{bit_at, trailing_zeros}
 use Rattle.std.proofs.lemmas.Nat.{shr-shr, shr_le}
 use Rattle.std.proofs.lemmas.Bool.{cases_lt}
 use Rattle.std.proofs.lemmas.Nat.Bits.{bit_at-trailing_zeros, bit_at-zero, bit_at_above}
-use Rattle.bitstream.specs.Bits.{digit_of_bytes, bit_of_bytes, HasNoOne, IsFirstOne}
+use Rattle.bitstream.specs.Bits.{HasNoOne, IsFirstOne}
+use Rattle.implicit_tiling.specs.Bits.{bit_of_bytes, digit_of_bytes}
 use Rattle.bitstream.proofs.Digits.{digit-past, digit-drop, digit-take}
 
 is_zero : (d : ℕ) → d ≡ 0 → eqb d 1 ≡ false

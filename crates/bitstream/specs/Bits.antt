@@ -1,13 +1,7 @@
 -- The bits of a bitstream, as a list (OGC 22-025r4, availability bitstreams).
-use Rattle.std.specs.Prelude.{◌≡◌, ℕ, ◌/◌, ◌%◌, ◌^◌, ◌<◌, ◌≤◌, ◌==◌, Bool, true, false, List, map, slice_index, slice_index_or}
+use Rattle.std.specs.Prelude.{◌≡◌, ℕ, ◌<◌, ◌≤◌, ◌==◌, Bool, true, false, List, map}
 use Rattle.std.specs.List.{range_with_len, count_by, list_any}
-
--- bit i of some bytes, as 0 or 1: bit i mod 8 of byte i / 8, where bit 0 of a byte is its least significant one
-abbrev pub digit_of_bytes : List ℕ → ℕ → ℕ
-digit_of_bytes bytes i = slice_index bytes (i / 8) / 2 ^ (i % 8) % 2
-
-abbrev pub bit_of_bytes : List ℕ → ℕ → Bool
-bit_of_bytes bytes i = digit_of_bytes bytes i == 1
+use Rattle.implicit_tiling.specs.Bits.{bit_of_bytes}
 
 -- the first bits of some bytes
 abbrev pub bits_of_bytes : List ℕ → ℕ → List Bool
@@ -16,10 +10,6 @@ bits_of_bytes bytes count = map (bit_of_bytes bytes) (range_with_len 0 count)
 -- so many bits, of which those at the places are 1
 abbrev pub bits_of_places : ℕ → List ℕ → List Bool
 bits_of_places count places = map (λ i. list_any (λ p. p == i) places) (range_with_len 0 count)
-
--- bit i of a list of bits: false past its end
-abbrev pub bit_at : List Bool → ℕ → Bool
-bit_at bits i = slice_index_or bits i false
 
 -- how many of the bits are 1
 abbrev pub ones_of : List Bool → ℕ

@@ -1,7 +1,7 @@
 -- The bytes that bits fill (OGC 22-025r4, availability bitstreams).
 use Rattle.std.specs.Prelude.{ℕ, zero, suc, ◌+◌, ◌*◌, ◌/◌, ◌^◌, Bool, List, length, map, if◌then◌else◌}
 use Rattle.std.specs.List.{range_with_len}
-use Rattle.bitstream.specs.Bits.{bit_at}
+use Rattle.implicit_tiling.specs.Bits.{bit_at}
 
 -- the number of the first n bits, where bit j has the worth 2^j
 abbrev pub number_of_bits : (ℕ → Bool) → ℕ → ℕ

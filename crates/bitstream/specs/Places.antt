@@ -1,7 +1,7 @@
 -- Bytes by the places of their ones (this project's own).
 use Rattle.std.specs.Prelude.{◌≡◌, ℕ, ◌<◌, ◌==◌, List, length}
 use Rattle.std.specs.List.{list_any}
-use Rattle.bitstream.specs.Bits.{bit_of_bytes}
+use Rattle.implicit_tiling.specs.Bits.{bit_of_bytes}
 use Rattle.bitstream.specs.Bytes.{bytes_filled}
 
 -- as few bytes as `count` bits fill, of which those at the places are 1 and the others are 0

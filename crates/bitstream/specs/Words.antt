@@ -1,6 +1,6 @@
 -- Words of 64 bits (this project's own).
 use Rattle.std.specs.Prelude.{◌≡◌, ℕ, ◌/◌, ◌%◌, ◌^◌, ◌<◌, List}
-use Rattle.bitstream.specs.Bits.{digit_of_bytes}
+use Rattle.implicit_tiling.specs.Bits.{digit_of_bytes}
 
 -- bit i of the word is bit i of the bytes; bits past their end are 0
 pub record IsWordOf (bytes : List ℕ) (word : ℕ) : Type 0 where

@@ -1,6 +1,7 @@
 // Bits: a constant or a bitstream.
 ghost use Rattle.std.specs.Prelude.{◌≡◌, ◌*◌, ◌<◌, ◌≤◌, ◌↔◌, ◌++◌, All, IfOk, OnOk, OnErr, IfSome, IsNone, MatchBool, MatchOption, length, replicate, take};
-ghost use Rattle.bitstream.specs.Bits.{bit_at, bits_of_bytes, bits_of_places, ones_of, HasNoOne, IsFirstOne, IsWithin, HasOneAlone};
+ghost use Rattle.bitstream.specs.Bits.{bits_of_bytes, bits_of_places, ones_of, HasNoOne, IsFirstOne, IsWithin, HasOneAlone};
+ghost use Rattle.implicit_tiling.specs.Bits.{bit_at};
 ghost use Rattle.bitstream.specs.Bytes.{bytes_of_bits};
 
 use crate::append::{append_constant, append_front};

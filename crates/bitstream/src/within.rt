@@ -1,6 +1,7 @@
 // Whether the ones of some bytes are ones of others.
 ghost use Rattle.std.specs.Prelude.{◌*◌, ◌≤◌, MatchBool, length};
-ghost use Rattle.bitstream.specs.Bits.{bit_of_bytes, IsWithin, HasOneAlone};
+ghost use Rattle.bitstream.specs.Bits.{IsWithin, HasOneAlone};
+ghost use Rattle.implicit_tiling.specs.Bits.{bit_of_bytes};
 
 use crate::words::{first_word, word_of};
 

@@ -1,6 +1,7 @@
 // Bytes by words of 64 bits, least significant first.
 ghost use Rattle.std.specs.Prelude.{◌≡◌, ◌*◌, ◌^◌, ◌<◌, ◌≤◌, IsTrue, MatchOption, length};
-ghost use Rattle.bitstream.specs.Bits.{bit_of_bytes, bits_of_bytes, ones_of, HasNoOne, IsFirstOne};
+ghost use Rattle.bitstream.specs.Bits.{bits_of_bytes, ones_of, HasNoOne, IsFirstOne};
+ghost use Rattle.implicit_tiling.specs.Bits.{bit_of_bytes};
 ghost use Rattle.bitstream.specs.Words.{IsWordOf};
 
 pub(crate) fn word_of(bytes: [u8; 8]) -> u64

@@ -8,7 +8,8 @@ use Rattle.std.proofs.lemmas.List.Folds.{Any-from_list_any, list_any_at}
 use Rattle.std.proofs.lemmas.List.FromFn.{length-map-range_with_len, get_or-map-range_with_len}
 use Rattle.implicit_tiling.specs.Scene.{Layout}
 use Rattle.implicit_tiling.specs.Availability.{place}
-use Rattle.implicit_tiling.specs.Subtree.{bit_at, node_count, child_count}
+use Rattle.implicit_tiling.specs.Subtree.{node_count, child_count}
+use Rattle.implicit_tiling.specs.Bits.{bit_at}
 use Rattle.tiling_laws.proofs.Rising.{none_in_nil, contains_first, contains_later, contains_cases}
 use Rattle.tiling_laws.proofs.Places.{place_below, within_level}
 use Rattle.bitstream.specs.Bits.{bits_of_places}

@@ -8,7 +8,7 @@ use Rattle.std.proofs.lemmas.Bool.{and_parts, and_from, ltb-true, lt-ltb, eqb-tr
 use Rattle.implicit_tiling.specs.Tile.{Tile, IsTile, branching, ancestor, parent, index}
 use Rattle.implicit_tiling.specs.Scene.{Layout}
 use Rattle.implicit_tiling.specs.Availability.{local_level, subtree_root, is_subtree_root}
-use Rattle.implicit_tiling.specs.Subtree.{bit_at}
+use Rattle.implicit_tiling.specs.Bits.{bit_at}
 use Rattle.implicit_tiling.specs.Code.{word_level, word_index, word_tile}
 use Rattle.tiling_laws.proofs.TileAt.{tile_at_is_tile, tile_from_index}
 use Rattle.tiling_laws.proofs.Ancestors.{ancestor_of_ancestor, ancestor_index}

@@ -9,8 +9,9 @@ use Rattle.std.proofs.lemmas.List.FromFn.{length-map-range_with_len}
 use Rattle.implicit_tiling.specs.declared.Scheme.{Scheme}
 use Rattle.implicit_tiling.specs.Tile.{Tile, branching}
 use Rattle.implicit_tiling.specs.Scene.{Layout}
-use Rattle.implicit_tiling.specs.Availability.{local_level, nodes_above, place}
-use Rattle.implicit_tiling.specs.Subtree.{IsSubtree, bit_at, is_kept, node_bit, has_tile, some_node, has_orphan, has_content_alone, node_count}
+use Rattle.implicit_tiling.specs.Availability.{local_level, nodes_above, place, IsRootOf}
+use Rattle.implicit_tiling.specs.Subtree.{IsSubtree, is_kept, node_bit, has_tile, some_node, has_orphan, has_content_alone, node_count}
+use Rattle.implicit_tiling.specs.Bits.{bit_at}
 use Rattle.walk_laws.proofs.Lists.{of_range}
 use Rattle.walk_laws.proofs.Runs.{below, below_level}
 use Rattle.walk_laws.proofs.Plain.{below_parent, parent_fits}
@@ -20,7 +21,7 @@ use Rattle.build_laws.specs.Made.{tile_in, under, has_content, node_bits, child_
 use Rattle.build_laws.specs.Holds.{AreWordsOf}
 use Rattle.build_laws.specs.Laws.{IsMadeWell, MadeSubtreesAreGood}
 use Rattle.build_laws.proofs.Bits.{from_map, length-bits_of_places}
-use Rattle.build_laws.proofs.Under.{parent_there, IsMadeRoot, made_is}
+use Rattle.build_laws.proofs.Under.{parent_there, made_is}
 use Rattle.build_laws.proofs.Nodes.{fewer_bits, tile_of_node, node_of_tile}
 
 -- no node passes a test
@@ -33,11 +34,11 @@ none_from scheme first count test none =
     (λ m from within. false_from_ne_true (test l m) (none l m low high (omega (arith, within)))))))
 
 -- what is known of a root, as the walks say it
-pub start_of_made : (layout : Layout) (words : List ℕ) (r : Tile) → AreWordsOf layout words → IsMadeRoot layout r → IsStart layout r
-start_of_made layout words r are is = start_of layout r are.limits.some_subtree_levels is.tile is.starts
+pub start_of_made : (layout : Layout) (words : List ℕ) (r : Tile) → AreWordsOf layout words → IsRootOf layout r → IsStart layout r
+start_of_made layout words r are is = start_of layout r are.limits.some_subtree_levels is.is_tile is.at_start
 
 -- the parent of a node that is there is there
-parent_is_there : (layout : Layout) (words : List ℕ) (r : Tile) (l m : ℕ) → AreWordsOf layout words → IsMadeRoot layout r
+parent_is_there : (layout : Layout) (words : List ℕ) (r : Tile) (l m : ℕ) → AreWordsOf layout words → IsRootOf layout r
     → 1 ≤ l → l < layout.subtree_levels → m < branching layout.scheme ^ l
     → has_tile (made_subtree layout words r) l m ≡ true → has_tile (made_subtree layout words r) (l - 1) (m / branching layout.scheme) ≡ true
 parent_is_there layout words r zero m are is some low h one = absurd (omega (arith, some))
@@ -54,7 +55,7 @@ parent_is_there layout words r (suc k) m are is some low h one =
     let back : k ≡ suc k - 1 = omega arith in
     subst (λ l. has_tile s l (m / branching scheme) ≡ true) back (and_from (is_kept s k) (bit_at s.tiles (nodes_above scheme k + m / branching scheme)) kept bit)
 
-no_orphan : (layout : Layout) (words : List ℕ) (r : Tile) → AreWordsOf layout words → IsMadeRoot layout r → has_orphan (made_subtree layout words r) ≡ false
+no_orphan : (layout : Layout) (words : List ℕ) (r : Tile) → AreWordsOf layout words → IsRootOf layout r → has_orphan (made_subtree layout words r) ≡ false
 no_orphan layout words r are is =
     let s = made_subtree layout words r in
     none_from layout.scheme 1 (layout.subtree_levels - 1) (λ l m. has_tile s l m && not (has_tile s (l - 1) (m / branching layout.scheme)))
@@ -85,7 +86,7 @@ no_content_alone layout words r some =
     let parts = and_parts (some_content l m) (not (has_tile s l m)) both in
     both_ways (not (has_tile s l m)) (not_from_true (has_tile s l m) (tile_of_content layout words r l m some parts.0)) parts.1)
 
-within_limits : (layout : Layout) (words : List ℕ) (r : Tile) → AreWordsOf layout words → IsMadeRoot layout r → IsSubtree (made_subtree layout words r)
+within_limits : (layout : Layout) (words : List ℕ) (r : Tile) → AreWordsOf layout words → IsRootOf layout r → IsSubtree (made_subtree layout words r)
 within_limits layout words r are is =
     let of_content : ℕ → List Bool = λ c. node_bits layout (filter (has_content c) (under layout r words)) in
     let count = length layout.contents in
@@ -94,8 +95,8 @@ within_limits layout words r are is =
       some_levels = are.limits.some_subtree_levels;
       few_levels = are.limits.few_subtree_levels;
       few_levels_in_all = are.limits.few_levels;
-      root_below_cut = is.low;
-      root_is_tile = is.tile;
+      root_below_cut = is.within;
+      root_is_tile = is.is_tile;
       few_contents = omega (arith, are.limits.few_contents, length-map-range_with_len of_content 0 count);
       tile_bits = length-bits_of_places nodes (map (λ w. place layout (tile_in layout w)) (under layout r words));
       content_bits = All-map (λ bits. length bits ≡ nodes) of_content (range_with_len 0 count)
@@ -104,7 +105,7 @@ within_limits layout words r are is =
       child_bits = length-bits_of_places (branching layout.scheme ^ layout.subtree_levels) (map (child_place layout) (child_roots layout r words));
     }
 
-pub made_well : (layout : Layout) (words : List ℕ) (r : Tile) → AreWordsOf layout words → IsMadeRoot layout r → IsMadeWell layout words r
+pub made_well : (layout : Layout) (words : List ℕ) (r : Tile) → AreWordsOf layout words → IsRootOf layout r → IsMadeWell layout words r
 made_well layout words r are is =
     let of_content : ℕ → List Bool = λ c. node_bits layout (filter (has_content c) (under layout r words)) in
     record {
@@ -114,7 +115,7 @@ made_well layout words r are is =
         same_levels = refl;
         same_cut = refl;
         contents_named = omega (arith, length-map-range_with_len of_content 0 (length layout.contents));
-        root_at_start = eqb-true (local_level layout r) 0 is.starts;
+        root_at_start = eqb-true (local_level layout r) 0 is.at_start;
       };
       rules = record { no_orphan = no_orphan layout words r are is; no_content_alone = no_content_alone layout words r are.limits.some_subtree_levels };
     }

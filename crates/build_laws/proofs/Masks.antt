@@ -12,7 +12,7 @@ use Rattle.implicit_tiling.specs.Tile.{root, is_key_below}
 use Rattle.implicit_tiling.specs.Tile.{Tile}
 use Rattle.implicit_tiling.specs.Scene.{Layout, Scene, Outcome, content_bits_of}
 use Rattle.implicit_tiling.specs.Availability.{subtree_root, place, mask_from, mask}
-use Rattle.implicit_tiling.specs.Subtree.{bit_at}
+use Rattle.implicit_tiling.specs.Bits.{bit_at}
 use Rattle.implicit_tiling.specs.Code.{word_level, word_index, word_tile, word_mask}
 use Rattle.tiling_laws.proofs.TileAt.{tile_at_is_tile}
 use Rattle.tiling_laws.proofs.Places.{tile_from_place}

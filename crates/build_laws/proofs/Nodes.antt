@@ -4,7 +4,7 @@ use Rattle.std.specs.List.{Contains, filter}
 use Rattle.implicit_tiling.specs.Tile.{Tile, branching}
 use Rattle.implicit_tiling.specs.Scene.{Layout}
 use Rattle.implicit_tiling.specs.Availability.{subtree_root, nodes_above, place}
-use Rattle.implicit_tiling.specs.Subtree.{bit_at}
+use Rattle.implicit_tiling.specs.Bits.{bit_at}
 use Rattle.implicit_tiling.specs.Code.{word_level, word_index, word_tile}
 use Rattle.tiling_laws.proofs.TileAt.{tile_at_is_tile}
 use Rattle.tiling_laws.proofs.Places.{tile_from_place}

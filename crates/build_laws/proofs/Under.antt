@@ -7,7 +7,7 @@ use Rattle.std.proofs.lemmas.List.Elements.{All-contains}
 use Rattle.implicit_tiling.specs.declared.Scheme.{Scheme}
 use Rattle.implicit_tiling.specs.Tile.{Tile, IsTile, root, ancestor, parent}
 use Rattle.implicit_tiling.specs.Scene.{Layout}
-use Rattle.implicit_tiling.specs.Availability.{local_level, subtree_root, is_subtree_root}
+use Rattle.implicit_tiling.specs.Availability.{local_level, subtree_root, is_subtree_root, IsRootOf}
 use Rattle.implicit_tiling.specs.Code.{word_level, word_index, word_tile}
 use Rattle.tiling_laws.proofs.TileAt.{same_tile, tile_at_level, tile_at_is_tile}
 use Rattle.tiling_laws.proofs.Ancestors.{ancestor_is_tile, ancestor_of_ancestor}
@@ -92,18 +92,13 @@ subtree_is_made layout words t some whole there =
     made_from layout words (subtree_root layout t)
     (ancestor_there layout.scheme layout.levels words (local_level layout t) t whole there (local_low t.level layout.subtree_levels)) (root_starts layout t some)
 
--- each stands where subtrees begin, below the levels in all
-pub record IsMadeRoot (layout : Layout) (r : Tile) : Type 0 where
-  pub tile : IsTile layout.scheme r
-  pub low : r.level < layout.levels
-  pub starts : is_subtree_root layout r ≡ true
-
-pub made_is : (layout : Layout) (words : List ℕ) (r : Tile) → 1 ≤ layout.levels → AreWords layout.scheme layout.levels words → Contains (made_roots layout words) r → IsMadeRoot layout r
+-- each is a tile of the layout with which a subtree may begin
+pub made_is : (layout : Layout) (words : List ℕ) (r : Tile) → 1 ≤ layout.levels → AreWords layout.scheme layout.levels words → Contains (made_roots layout words) r → IsRootOf layout r
 made_is layout [] r some are there =
     elim (contains_cases root [] r there) [
-      | inl same ↦ subst (IsMadeRoot layout) same (record { tile = tile_at_is_tile layout.scheme 0 0; low = omega (arith, some); starts = top_is_root layout root refl })
+      | inl same ↦ subst (IsRootOf layout) same (record { is_tile = tile_at_is_tile layout.scheme 0 0; within = omega (arith, some); at_start = top_is_root layout root refl })
       | inr later ↦ absurd (none_in_nil r later)
     ]
 made_is layout (w ∷ words) r some are there =
     let is = (in_filtered (is_subtree_root layout) (tiles_of layout.scheme (w ∷ words)) r).0 there in
-    record { tile = is_tile layout.scheme (w ∷ words) r is.0; low = is_low layout.scheme layout.levels (w ∷ words) r are is.0; starts = is.1 }
+    record { is_tile = is_tile layout.scheme (w ∷ words) r is.0; within = is_low layout.scheme layout.levels (w ∷ words) r are is.0; at_start = is.1 }

@@ -25,7 +25,8 @@ use Rattle.tile_coords.specs.declared.walk_end.WalkEnd.{WalkEnd}
 use Rattle.tile_coords.specs.declared.walk_end.WalkEnd.TheVariants.{Partial, Complete, TooMany, Fault}
 use Rattle.tile_coords.specs.declared.walk_end.FoundFault.{FoundFault}
 use Rattle.tile_coords.specs.declared.walk_end.CheckEnd.{CheckEnd}
-use Rattle.request_text.specs.Found.{found_of, found_text, end_of_check}
+use Rattle.request_text.specs.Found.{found_text, end_of_check}
+use Rattle.tile_coords.specs.Found.{found_of}
 use Rattle.tile_coords.specs.Ends.{end_seen}
 use Rattle.tileset_json.specs.Limits.{IsWithinLimits}
 use Rattle.walk_laws.proofs.Regions.{accepted_is_a_region}
@@ -35,7 +36,8 @@ use Rattle.commands.specs.declared.status.Status.{Status}
 use Rattle.commands.specs.declared.status.Status.TheVariants.{Done, Faulted, Usage, BadLayout, ReadFault, WriteFault, InputFault, Memory, InputLong}
 use Rattle.commands.specs.Replies.{Reply, end_status, walk_status, found_status, plan_reply, check_reply, layout_in, reply_over, reply_in, reply_wanted, puts_files, Agrees, IsGiven, IsBegun, Replies}
 use Rattle.tile_walk.specs.Plans.{FitsLayout}
-use Rattle.tile_walk.specs.Walks.{IsAnswer, tile_word}
+use Rattle.tile_walk.specs.Walks.{IsAnswer}
+use Rattle.implicit_tiling.specs.Code.{tile_word}
 use Rattle.tile_walk.specs.Checks.{IsCheck}
 
 -- a fact of each list of files that a source tells

@@ -10,7 +10,7 @@ use Rattle.std.proofs.lemmas.Option.{slice_get_within, get_or_from_slice_get}
 use Rattle.implicit_tiling.specs.declared.Scheme.{Scheme}
 use Rattle.implicit_tiling.specs.Region.{Region}
 use Rattle.implicit_tiling.specs.Scene.{Layout, Scene}
-use Rattle.implicit_tiling.specs.Code.{IsWord, word_level}
+use Rattle.implicit_tiling.specs.Code.{IsWord, word_level, tile_word}
 use Rattle.implicit_tiling.specs.Answer.{most_tiles}
 use Rattle.implicit_tiling.specs.Nodes.{level_words, child_words}
 use Rattle.implicit_tiling.specs.Steps.{StepEnd, partial, Step, steps}
@@ -25,7 +25,7 @@ use Rattle.region_cursor.specs.Cursor.{Cursor, IsWalkOf, IsRootKey, IsTileWord, 
 use Rattle.region_cursor.specs.Moves.{over, level_after, pair_after, passed, end_by_key, room, counted, with_children, made_by, made_at, made}
 use Rattle.tile_walk.specs.Roots.{IsRootWord}
 use Rattle.tile_walk.specs.Plans.{IsRegionOf}
-use Rattle.tile_walk.specs.Walks.{tile_word, AreFound, IsAnswer}
+use Rattle.tile_walk.specs.Walks.{AreFound, IsAnswer}
 use Rattle.region_cursor.specs.Walked.{IsAt, IsNextKey, GivesStep}
 use Rattle.framed_walk.specs.Walked.{tiles_of_steps, HasWalked}
 

@@ -9,7 +9,7 @@ use Rattle.walk_laws.specs.Stepped.{last_end}
 use Rattle.tile_coords.specs.Ends.{end_seen}
 use Rattle.tile_coords.specs.declared.walk_end.WalkEnd.{WalkEnd}
 use Rattle.region_cursor.specs.Cursor.{Cursor}
-use Rattle.tile_walk.specs.Walks.{tile_word}
+use Rattle.implicit_tiling.specs.Code.{tile_word}
 use Rattle.region_cursor.specs.Walked.{IsAt, IsNextKey}
 
 -- the tiles of the first steps

@@ -1,10 +1,11 @@
 -- What the bytes of a subtree file hold: the bits that it names, or its first fault (OGC 22-025r4, subtree binary
 -- format, availability; the numbers and the order of the faults are this project's own).
-use Rattle.std.specs.Prelude.{ℕ, ◌+◌, ◌*◌, ◌/◌, ◌%◌, ◌^◌, ◌||◌, ◌==◌, nat_lt, not, Bool, true, false, List, [], ◌∷◌, ◌++◌, length, map, take, drop, count_by, slice_index, codes, Option, Some, None, option_map, Result, Ok, Err, if◌then◌else◌}
+use Rattle.std.specs.Prelude.{ℕ, ◌+◌, ◌*◌, ◌||◌, ◌==◌, nat_lt, not, Bool, true, false, List, [], ◌∷◌, ◌++◌, length, map, take, drop, count_by, codes, Option, Some, None, option_map, Result, Ok, Err, if◌then◌else◌}
 use Rattle.std.specs.Str.{bytes_eq}
 use Rattle.std.specs.List.{slice_range, list_any, range_with_len, slice_get}
 use Rattle.std.specs.Int.{w32, w64, from_le_bytes}
 use Rattle.implicit_tiling.specs.Limits.{most_file_bytes}
+use Rattle.implicit_tiling.specs.Bits.{bit_of_bytes}
 use Rattle.implicit_tiling.specs.Checks.{need, refuse}
 use Rattle.implicit_tiling.specs.Tile.{Tile}
 use Rattle.implicit_tiling.specs.Scene.{Layout, Outcome, good, bad}
@@ -41,10 +42,6 @@ parts_of bytes =
     (refuse 5 (not (version bytes == 1))
     (refuse 6 (nat_lt (length bytes) (header_bytes + json_length bytes + binary_length bytes))
     (Ok (parts_at bytes (json_length bytes) (binary_length bytes))))))
-
--- bit i of some bytes: bit i mod 8 of byte i / 8, where bit 0 is the lowest
-abbrev pub bit_of_bytes : List ℕ → ℕ → Bool
-bit_of_bytes bytes i = slice_index bytes (i / 8) / 2 ^ (i % 8) % 2 == 1
 
 -- an availability that is used, and how many bits of it are needed
 pub record Used : Type 0 where

@@ -1,8 +1,8 @@
 -- Which tiles exist, and which contents stand on them (OGC 22-025r4, implicit tiling: availability, tile
 -- availability, content availability, child subtree availability).
-use Rattle.std.specs.Prelude.{ℕ, zero, suc, ◌+◌, ◌-◌, ◌/◌, ◌%◌, ◌^◌, ◌&&◌, ◌||◌, ◌==◌, nat_lt, not, Bool, List, [], ◌∷◌, if◌then◌else◌}
+use Rattle.std.specs.Prelude.{ℕ, zero, suc, ◌≡◌, ◌<◌, ◌+◌, ◌-◌, ◌/◌, ◌%◌, ◌^◌, ◌&&◌, ◌||◌, ◌==◌, nat_lt, not, Bool, true, List, [], ◌∷◌, if◌then◌else◌}
 use Rattle.implicit_tiling.specs.declared.Scheme.{Scheme}
-use Rattle.implicit_tiling.specs.Tile.{Tile, branching, ancestor, parent, index}
+use Rattle.implicit_tiling.specs.Tile.{Tile, IsTile, branching, ancestor, parent, index}
 use Rattle.implicit_tiling.specs.Scene.{Layout, Scene, tile_bit_of, child_bit_of, content_bits_of}
 
 -- a tile's level within its subtree, and the subtree's root
@@ -14,6 +14,12 @@ subtree_root layout t = ancestor (local_level layout t) t
 
 abbrev pub is_subtree_root : Layout → Tile → Bool
 is_subtree_root layout t = local_level layout t == 0
+
+-- a tile of the layout with which a subtree may begin
+pub record IsRootOf (layout : Layout) (r : Tile) : Type 0 where
+  pub is_tile : IsTile layout.scheme r
+  pub within : r.level < layout.levels
+  pub at_start : is_subtree_root layout r ≡ true
 
 -- the nodes of a subtree above a local level
 abbrev pub nodes_above : Scheme → ℕ → ℕ

@@ -3,6 +3,8 @@ use Rattle.std.specs.Prelude.{ℕ, ◌+◌, ◌*◌, ◌/◌, ◌%◌, ◌^◌, 
 use Rattle.implicit_tiling.specs.declared.Scheme.{Scheme}
 use Rattle.implicit_tiling.specs.Limits.{most_levels}
 use Rattle.implicit_tiling.specs.Tile.{Tile, branching, index, tile_at}
+use Rattle.implicit_tiling.specs.Scene.{Scene}
+use Rattle.implicit_tiling.specs.Availability.{mask}
 
 -- the places of the word's parts
 abbrev pub mask_place : ℕ
@@ -13,6 +15,10 @@ level_place = 59
 
 abbrev pub word : Scheme → Tile → ℕ → ℕ
 word scheme t mask = t.level * 2 ^ level_place + mask * 2 ^ mask_place + index scheme t
+
+-- the word of an available tile, with the mask of its contents
+abbrev pub tile_word : Scene → Tile → ℕ
+tile_word s t = word s.layout.scheme t (mask s t)
 
 -- the parts of a word, and its tile
 abbrev pub word_level : ℕ → ℕ

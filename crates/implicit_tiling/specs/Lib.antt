@@ -1,4 +1,5 @@
 pub mod Limits
+pub mod Bits
 pub mod Tile
 pub mod Checks
 pub mod Region

@@ -1,8 +1,8 @@
 -- A region: a level, and an inclusive box of coordinates at that level (this project's own).
-use Rattle.std.specs.Prelude.{ℕ, ◌≡◌, ◌-◌, ◌/◌, ◌^◌, ◌&&◌, ◌||◌, nat_lt, nat_le, Bool, List, [], ◌∷◌, slice_index, Result, Ok}
+use Rattle.std.specs.Prelude.{ℕ, ◌-◌, ◌/◌, ◌^◌, ◌&&◌, ◌||◌, nat_lt, nat_le, Bool, List, [], ◌∷◌, slice_index, Result, Ok}
 use Rattle.implicit_tiling.specs.declared.Scheme.{Scheme}
 use Rattle.implicit_tiling.specs.Checks.{refuse}
-use Rattle.implicit_tiling.specs.Tile.{Tile, depth_of}
+use Rattle.implicit_tiling.specs.Tile.{Tile}
 
 pub record Region : Type 0 where
   pub level : ℕ
@@ -40,10 +40,3 @@ region_of levels level lo hi =
     (refuse 2 (some_axis (λ axis. nat_lt (slice_index hi axis) (slice_index lo axis)))
     (refuse 3 (some_axis (λ axis. nat_le (2 ^ level) (slice_index hi axis)))
     (Ok (record { level = level; lo = lo; hi = hi }))))
-
--- a plan fits a layout of this scheme and these levels: its region is accepted, and in a quadtree has no third places
-pub record Fits (scheme : Scheme) (levels : ℕ) (plan : Plan) : Type 0 where
-  pub same_scheme : plan.scheme ≡ scheme
-  pub flat_lo : slice_index plan.region.lo 2 ≡ depth_of scheme (slice_index plan.region.lo 2)
-  pub flat_hi : slice_index plan.region.hi 2 ≡ depth_of scheme (slice_index plan.region.hi 2)
-  pub accepted : region_of levels plan.region.level plan.region.lo plan.region.hi ≡ Ok plan.region

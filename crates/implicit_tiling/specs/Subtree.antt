@@ -1,9 +1,10 @@
 -- A decoded subtree: its root, and the bits that its file names for its nodes and child subtrees
 -- (OGC 22-025r4, implicit tiling: subtrees; availability bitstreams).
-use Rattle.std.specs.Prelude.{ℕ, ◌≡◌, ◌+◌, ◌-◌, ◌/◌, ◌%◌, ◌^◌, ◌<◌, ◌≤◌, ◌&&◌, nat_lt, not, Bool, false, List, [], ◌∷◌, length, map, slice_index_or, if◌then◌else◌}
+use Rattle.std.specs.Prelude.{ℕ, ◌≡◌, ◌+◌, ◌-◌, ◌/◌, ◌%◌, ◌^◌, ◌<◌, ◌≤◌, ◌&&◌, nat_lt, not, Bool, List, [], ◌∷◌, length, map, if◌then◌else◌}
 use Rattle.std.specs.List.{range_with_len, list_any, All}
 use Rattle.implicit_tiling.specs.declared.Scheme.{Scheme}
 use Rattle.implicit_tiling.specs.Limits.{most_levels, most_subtree_levels, most_contents}
+use Rattle.implicit_tiling.specs.Bits.{bit_at}
 use Rattle.implicit_tiling.specs.Tile.{Tile, IsTile, branching}
 use Rattle.implicit_tiling.specs.Scene.{Layout, Bits}
 use Rattle.implicit_tiling.specs.Availability.{nodes_above}
@@ -17,10 +18,6 @@ pub record Subtree : Type 0 where
   pub tiles : List Bool
   pub contents : List (List Bool)
   pub child : List Bool
-
--- bit i, which is 0 past the end
-abbrev pub bit_at : List Bool → ℕ → Bool
-bit_at bits i = slice_index_or bits i false
 
 -- the nodes of a local level stand at a level below the levels in all
 abbrev pub is_kept : Subtree → ℕ → Bool

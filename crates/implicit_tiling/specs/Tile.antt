@@ -1,7 +1,7 @@
 -- Tiles, their Morton indices and their order (OGC 22-025r4, implicit tiling: subdivision scheme, tile coordinates,
 -- Morton index).
-use Rattle.std.specs.Prelude.{ℕ, zero, suc, ◌≡◌, ◌+◌, ◌-◌, ◌*◌, ◌/◌, ◌%◌, ◌^◌, ◌<◌, ◌&&◌, ◌||◌, ◌==◌, nat_lt, Bool, List, map, sum}
-use Rattle.std.specs.List.{range_with_len, flat_map}
+use Rattle.std.specs.Prelude.{ℕ, zero, suc, ◌≡◌, ◌+◌, ◌-◌, ◌*◌, ◌/◌, ◌%◌, ◌^◌, ◌<◌, ◌&&◌, ◌||◌, ◌==◌, nat_lt, Bool, true, List, map, sum}
+use Rattle.std.specs.List.{range_with_len, flat_map, AllPairs}
 use Rattle.implicit_tiling.specs.declared.Scheme.{Scheme}
 use Rattle.implicit_tiling.specs.declared.Scheme.TheVariants.{Quad, Oct}
 
@@ -66,6 +66,10 @@ index scheme t = interleaved scheme t.level t.x t.y t.z
 -- keys are ordered by level, then by index
 abbrev pub is_key_below : Scheme → Tile → Tile → Bool
 is_key_below scheme t u = nat_lt t.level u.level || (t.level == u.level && nat_lt (index scheme t) (index scheme u))
+
+-- along the list each key is below those of all later tiles
+abbrev pub IsInKeyOrder : Scheme → List Tile → Type 0
+IsInKeyOrder scheme tiles = AllPairs (λ t u. is_key_below scheme t u ≡ true) tiles
 
 -- the tile of a level with this index
 abbrev pub tile_at : Scheme → ℕ → ℕ → Tile

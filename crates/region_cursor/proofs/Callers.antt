@@ -1,6 +1,7 @@
 -- What a caller has to know of a walk and of the subtrees that it reads.
 use Rattle.std.proofs.Common.{◌≡◌, ℕ, ◌%◌, false, Option, Some, sym, ap, ◌∙◌, arith}
 use Rattle.std.proofs.lemmas.Option.{get_or_from_slice_get}
+use Rattle.std.proofs.lemmas.Bool.{eq-eqb}
 use Rattle.implicit_tiling.specs.declared.Scheme.{Scheme}
 use Rattle.implicit_tiling.specs.Tile.{Tile}
 use Rattle.implicit_tiling.specs.Region.{Region}
@@ -9,7 +10,7 @@ use Rattle.implicit_tiling.specs.Subtree.{Subtree, IsOf, has_orphan}
 use Rattle.implicit_tiling.specs.Code.{word, word_tile}
 use Rattle.availability.proofs.Tiles.{parts_have_their_word, word_tile_level, word_tile_is_tile}
 use Rattle.region_cursor.specs.Cursor.{Cursor, IsWalkOf, IsSameWalk, IsRootKey, FitsSubtree, Fits, key_of, next_root, root_level_of}
-use Rattle.tile_walk.specs.Roots.{IsRootTile}
+use Rattle.implicit_tiling.specs.Availability.{local_level, IsRootOf}
 use Rattle.tile_walk.specs.Outcomes.{IsOutcomeAt}
 use Rattle.tile_walk.specs.declared.outcome.Outcome.{Outcome}
 use Rattle.tile_walk.specs.declared.outcome.Outcome.TheVariants.{Good, Bad}
@@ -56,12 +57,13 @@ outcome_fits layout region c key (Good st) is at root found =
 outcome_fits layout region c key (Bad n) is at root found = tt
 
 -- the tile of a next key
-pub key_is_of_a_root_tile : (layout : Layout) (region : Region) (c : Cursor) (key : ℕ) → IsWalkOf layout region c → IsRootKey c key → IsRootTile layout (word_tile layout.scheme key)
+pub key_is_of_a_root_tile : (layout : Layout) (region : Region) (c : Cursor) (key : ℕ) → IsWalkOf layout region c → IsRootKey c key → IsRootOf layout (word_tile layout.scheme key)
 key_is_of_a_root_tile layout region c key is root =
     let level = word_tile_level layout.scheme key in
     let own : (word_tile layout.scheme key).level ≡ root_level_of c = omega (arith, level, root.root.at_level) in
     record {
-      below = omega (arith, own, root.below, is.same_levels);
-      at_start = ap (λ l. l % layout.subtree_levels) own ∙ sym (ap (λ n. root_level_of c % n) is.same_subtree_levels) ∙ root.at_start;
       is_tile = word_tile_is_tile layout.scheme key;
+      within = omega (arith, own, root.below, is.same_levels);
+      at_start = eq-eqb (local_level layout (word_tile layout.scheme key)) 0
+          (ap (λ l. l % layout.subtree_levels) own ∙ sym (ap (λ n. root_level_of c % n) is.same_subtree_levels) ∙ root.at_start);
     }

@@ -16,7 +16,7 @@ use Rattle.implicit_tiling.specs.Scene.{Layout, Scene, good, bad, fault_of}
 use Rattle.implicit_tiling.specs.Availability.{local_level, subtree_root, is_subtree_root, is_available, is_reached}
 use Rattle.implicit_tiling.specs.Answer.{most_tiles, too_many, fault}
 use Rattle.implicit_tiling.specs.Subtree.{Subtree, IsSubtree, bits_of}
-use Rattle.implicit_tiling.specs.Code.{word, word_tile}
+use Rattle.implicit_tiling.specs.Code.{word, word_tile, tile_word}
 use Rattle.implicit_tiling.specs.Nodes.{level_words, child_words}
 use Rattle.implicit_tiling.specs.Steps.{pair_of, descendants, segment, pair_fault, last_or_not, ended, Step, step_then, steps, steps_from}
 use Rattle.tiling_laws.proofs.Available.{available_as_written}
@@ -44,7 +44,6 @@ use Rattle.tile_walk.specs.Plans.{FitsLayout}
 use Rattle.region_cursor.specs.Moves.{begun, over, passed, end_by_key, Made, went_on, children_if, with_children, counted, room, made_by, made_good, made_at, made}
 use Rattle.tile_walk.specs.Outcomes.{outcome_seen}
 use Rattle.region_cursor.specs.Walked.{root_word, pairs_done, found_below, IsUnderWay, IsAt, GivesStep}
-use Rattle.tile_walk.specs.Walks.{tile_word}
 use Rattle.region_cursor.proofs.Places.{row, root_here, pair_here, rest_here, done_here, done_more, place_of_key, key_here, is_under_way, IsStep, step_here, root_is_on_walk}
 use Rattle.region_cursor.proofs.Passing.{nothing_below, Counted, to_next}
 

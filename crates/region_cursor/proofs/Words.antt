@@ -11,7 +11,8 @@ use Rattle.implicit_tiling.specs.Limits.{most_levels}
 use Rattle.implicit_tiling.specs.Tile.{Tile, branching, index}
 use Rattle.implicit_tiling.specs.Region.{Region, is_in}
 use Rattle.implicit_tiling.specs.Availability.{nodes_above}
-use Rattle.implicit_tiling.specs.Subtree.{Subtree, IsSubtree, bit_at, node_bit, is_kept, has_tile, has_child, contents_mask}
+use Rattle.implicit_tiling.specs.Subtree.{Subtree, IsSubtree, node_bit, is_kept, has_tile, has_child, contents_mask}
+use Rattle.implicit_tiling.specs.Bits.{bit_at}
 use Rattle.implicit_tiling.specs.Answer.{most_tiles}
 use Rattle.implicit_tiling.specs.Code.{word}
 use Rattle.implicit_tiling.specs.Nodes.{node_at, indices, tiles_in, node_word, level_words, is_child_in, children_in, child_word, child_words}

@@ -4,7 +4,7 @@ use Rattle.implicit_tiling.specs.Region.{Region}
 use Rattle.implicit_tiling.specs.Scene.{Layout}
 use Rattle.implicit_tiling.specs.Code.{word_tile}
 use Rattle.region_cursor.specs.Cursor.{Cursor, IsWalkOf, IsSameWalk, IsRootKey, Fits, key_of, next_root}
-use Rattle.tile_walk.specs.Roots.{IsRootTile}
+use Rattle.implicit_tiling.specs.Availability.{IsRootOf}
 use Rattle.tile_walk.specs.Outcomes.{IsOutcomeAt}
 use Rattle.tile_walk.specs.declared.outcome.Outcome.{Outcome}
 
@@ -20,4 +20,4 @@ OutcomesFit = (layout : Layout) (region : Region) (c : Cursor) (key : ℕ) (foun
 
 abbrev pub NextKeysAreOfRootTiles : Type 0
 NextKeysAreOfRootTiles = (layout : Layout) (region : Region) (c : Cursor) (key : ℕ) → IsWalkOf layout region c → IsRootKey c key
-    → IsRootTile layout (word_tile layout.scheme key)
+    → IsRootOf layout (word_tile layout.scheme key)

@@ -5,11 +5,10 @@ use Rattle.implicit_tiling.specs.Tile.{Tile}
 use Rattle.implicit_tiling.specs.Region.{Region}
 use Rattle.implicit_tiling.specs.Scene.{Scene}
 use Rattle.implicit_tiling.specs.Answer.{most_tiles}
-use Rattle.implicit_tiling.specs.Code.{word}
+use Rattle.implicit_tiling.specs.Code.{word, tile_word}
 use Rattle.implicit_tiling.specs.Steps.{Pair, pair_of, walk_roots, pairs, steps}
 use Rattle.tile_coords.specs.Ends.{end_seen}
 use Rattle.tile_coords.specs.declared.walk_end.WalkEnd.{WalkEnd}
-use Rattle.tile_walk.specs.Walks.{tile_word}
 use Rattle.walk_laws.specs.Children.{roots_below}
 use Rattle.walk_laws.specs.Pairs.{pairs_above, NoPairFaults, tiles_of_pairs}
 use Rattle.region_cursor.specs.Cursor.{Cursor, IsWalkOf, is_last_local, key_of}

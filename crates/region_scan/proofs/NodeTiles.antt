@@ -10,7 +10,8 @@ use Rattle.implicit_tiling.specs.Limits.{most_levels}
 use Rattle.implicit_tiling.specs.Tile.{Tile, IsTile, axes, branching, ancestor, child, index, tile_at}
 use Rattle.implicit_tiling.specs.Region.{Region, is_in, is_within, each_axis, coordinate}
 use Rattle.implicit_tiling.specs.Availability.{nodes_above}
-use Rattle.implicit_tiling.specs.Subtree.{Subtree, IsSubtree, is_kept, bit_at, has_tile, has_child}
+use Rattle.implicit_tiling.specs.Subtree.{Subtree, IsSubtree, is_kept, has_tile, has_child}
+use Rattle.implicit_tiling.specs.Bits.{bit_at}
 use Rattle.implicit_tiling.specs.Nodes.{node_at, indices, is_tile_in, node_word, level_words, is_child_in, child_word, child_words}
 use Rattle.region_scan.specs.Found.{is_looked_at, first_index}
 use Rattle.region_scan.specs.NodeLaws.{below, IsNode}

@@ -12,7 +12,8 @@ use Rattle.implicit_tiling.specs.Tile.{branching, ancestor, is_key_below}
 use Rattle.implicit_tiling.specs.Region.{Region, is_in}
 use Rattle.implicit_tiling.specs.Code.{word, word_tile}
 use Rattle.implicit_tiling.specs.Availability.{nodes_above}
-use Rattle.implicit_tiling.specs.Subtree.{Subtree, IsSubtree, is_kept, bit_at, node_bit, has_tile, has_child, contents_mask}
+use Rattle.implicit_tiling.specs.Subtree.{Subtree, IsSubtree, is_kept, node_bit, has_tile, has_child, contents_mask}
+use Rattle.implicit_tiling.specs.Bits.{bit_at}
 use Rattle.implicit_tiling.specs.Nodes.{node_at, is_tile_in, node_word, is_child_in, child_word}
 use Rattle.tiling_laws.proofs.Order.{below_by_index}
 use Rattle.availability.specs.Words.{HasWord}

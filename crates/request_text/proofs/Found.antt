@@ -23,7 +23,8 @@ use Rattle.implicit_tiling.specs.declared.Scheme.{Scheme}
 use Rattle.implicit_tiling.specs.Text.{fault_line, check_end_line}
 use Rattle.tile_coords.specs.declared.walk_end.FoundFault.{FoundFault}
 use Rattle.tile_coords.specs.declared.walk_end.CheckEnd.{CheckEnd}
-use Rattle.request_text.specs.Found.{fault_seen, found_of, found_text}
+use Rattle.request_text.specs.Found.{fault_seen, found_text}
+use Rattle.tile_coords.specs.Found.{found_of}
 
 -- the line of a fault by its word
 abbrev pub found_line : Scheme → FoundFault → List ℕ

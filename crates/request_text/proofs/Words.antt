@@ -12,13 +12,13 @@ use Rattle.implicit_tiling.specs.Region.{Region, is_in}
 use Rattle.implicit_tiling.specs.Scene.{Scene, content_bits_of}
 use Rattle.implicit_tiling.specs.Availability.{mask, mask_from, content_bit, subtree_root, place, is_available}
 use Rattle.implicit_tiling.specs.Answer.{answer, tiles, first_fault, is_before, most_tiles}
-use Rattle.implicit_tiling.specs.Code.{word_mask}
+use Rattle.implicit_tiling.specs.Code.{word_mask, tile_word}
 use Rattle.implicit_tiling.specs.Text.{tile_line, word_line, end_line}
 use Rattle.tiling_laws.proofs.TileAt.{tile_at_is_tile, tile_at_level}
 use Rattle.tiling_laws.proofs.Order.{of_all_tiles}
 use Rattle.availability.specs.Words.{HasWord}
 use Rattle.availability.proofs.Tiles.{words_have_their_parts}
-use Rattle.request_text.specs.Laws.{WordsMakeTheText, tile_word}
+use Rattle.request_text.specs.Laws.{WordsMakeTheText}
 
 -- a content's bit is at most its worth
 worth : (b : Bool) (c : ℕ) → (if b then 2 ^ c else 0) ≤ 2 ^ c

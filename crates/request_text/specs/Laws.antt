@@ -3,21 +3,16 @@
 use Rattle.std.specs.Prelude.{ℕ, ◌≡◌, ◌<◌, ◌≤◌, List, [], ◌∷◌, length, map, IsSome}
 use Rattle.std.specs.List.{join_with_byte}
 use Rattle.implicit_tiling.specs.Limits.{most_levels, most_contents}
-use Rattle.implicit_tiling.specs.Tile.{Tile}
 use Rattle.implicit_tiling.specs.Region.{Region}
 use Rattle.implicit_tiling.specs.Scene.{Scene}
-use Rattle.implicit_tiling.specs.Availability.{mask}
 use Rattle.implicit_tiling.specs.Answer.{answer}
-use Rattle.implicit_tiling.specs.Code.{word}
+use Rattle.implicit_tiling.specs.Code.{tile_word}
 use Rattle.implicit_tiling.specs.Steps.{ended}
 use Rattle.implicit_tiling.specs.Text.{answer_text, words_text, checked_text}
 use Rattle.implicit_tiling.specs.Checked.{checked}
 use Rattle.implicit_tiling.specs.Request.{line_of, line_of_words}
-use Rattle.request_text.specs.Found.{found_of, end_of_check, found_text}
-
--- the word of an available tile, with the mask of its contents
-abbrev pub tile_word : Scene → Tile → ℕ
-tile_word s t = word s.layout.scheme t (mask s t)
+use Rattle.request_text.specs.Found.{end_of_check, found_text}
+use Rattle.tile_coords.specs.Found.{found_of}
 
 -- within the limits, the text by the words of the answer's tiles is the text of the answer
 abbrev pub WordsMakeTheText : Type 0

@@ -3,7 +3,8 @@ use Rattle.std.proofs.Common.{◌≡◌, ℕ, zero, suc, ◌+◌, ◌*◌, ◌-�
 use Rattle.std.specs.Prelude.{Err, ◌==◌}
 use Rattle.std.specs.List.{list_any, range_with_len, slice_range}
 use Rattle.std.proofs.lemmas.List.FromFn.{map-range_with_len_more}
-use Rattle.bitstream.specs.Bits.{bit_of_bytes, bits_of_bytes}
+use Rattle.bitstream.specs.Bits.{bits_of_bytes}
+use Rattle.implicit_tiling.specs.Bits.{bit_of_bytes}
 use Rattle.bitstream.proofs.Digits.{digit-take}
 use Rattle.implicit_tileset.specs.Record.{BufferView}
 use Rattle.implicit_tileset.specs.SubtreeFile.{Used, Held, is_miscounted, raw_bits}

@@ -6,7 +6,8 @@ use Rattle.std.proofs.lemmas.Bool.{le-ltb, eq-eqb}
 use Rattle.std.proofs.lemmas.List.{ext_get_or, get_or-replicate, length-replicate}
 use Rattle.std.proofs.lemmas.List.FromFn.{length-map-range_with_len, get_or-map-range_with_len}
 use Rattle.implicit_tileset.specs.Record.{Buffer, BufferView, Availability, constant, stream, ContentPart}
-use Rattle.implicit_tileset.specs.SubtreeFile.{Used, Held, buffer_named, view_is, buffer_is, is_none, names_no_view, is_external, is_out, is_short, view_bit, raw_bits, is_miscounted, bit_of_bytes}
+use Rattle.implicit_tileset.specs.SubtreeFile.{Used, Held, buffer_named, view_is, buffer_is, is_none, names_no_view, is_external, is_out, is_short, view_bit, raw_bits, is_miscounted}
+use Rattle.implicit_tiling.specs.Bits.{bit_of_bytes}
 use Rattle.bitstream.specs.Bytes.{bytes_filled, bytes_of_bits}
 use Rattle.bitstream.proofs.Bytes.{length-bytes_of_bits, bits_of_bytes-bytes_of_bits}
 use Rattle.subtree_write.specs.Canonical.{aligned, padded, is_mixed, has_one, streams_of, stream_bytes}

@@ -5,7 +5,7 @@ use Rattle.std.specs.List.{All, range_with_len}
 use Rattle.std.proofs.lemmas.List.Elements.{All-weaker, All-filter, All-same}
 use Rattle.implicit_tiling.specs.Tile.{Tile}
 use Rattle.implicit_tiling.specs.Scene.{Layout}
-use Rattle.implicit_tiling.specs.Availability.{place}
+use Rattle.implicit_tiling.specs.Availability.{place, IsRootOf}
 use Rattle.implicit_tiling.specs.Subtree.{Subtree, IsSubtree, node_count}
 use Rattle.implicit_tiling.specs.Code.{IsWord}
 use Rattle.walk_laws.proofs.Lists.{map_same}
@@ -15,7 +15,6 @@ use Rattle.build_laws.specs.Made.{tile_in, under, has_content, node_bits, child_
 use Rattle.build_laws.specs.Holds.{AreWordsOf}
 use Rattle.build_laws.proofs.Good.{made_well}
 use Rattle.tile_builder.specs.Bits.{content_bits}
-use Rattle.tile_builder.specs.Roots.{IsRootOf}
 use Rattle.tile_builder.specs.Runs.{is_below, words_below, inner_words}
 use Rattle.tile_builder.proofs.Alike.{AreAlike, filter_alike, bits_alike}
 use Rattle.tile_builder.proofs.Inner.{inner_is_under, below_are_children}
@@ -75,7 +74,7 @@ made_is layout words r s are is of =
 
 pub made_is_subtree : (layout : Layout) (words : List ℕ) (r : Tile) (s : Subtree) → AreWordsOf layout words → IsRootOf layout r → IsMadeOf layout words r s → IsSubtree s
 made_is_subtree layout words r s are is of =
-    subst IsSubtree (sym (made_is layout words r s are is of)) (made_well layout words r are (record { tile = is.is_tile; low = is.within; starts = is.at_start })).subtree
+    subst IsSubtree (sym (made_is layout words r s are is of)) (made_well layout words r are is).subtree
 
 pub parts_of : (layout inside : Layout) (words tiles_from contents_from roots : List ℕ) (r : Tile) (tiles child : List Bool) (contents : List (List Bool)) → inside ≡ layout
     → tiles_from ≡ inner_words layout words r → contents_from ≡ inner_words layout words r → roots ≡ words_below layout words r inside.subtree_levels

@@ -9,7 +9,7 @@ use Rattle.implicit_tiling.specs.declared.Scheme.{Scheme}
 use Rattle.implicit_tiling.specs.Files.{Files, file}
 use Rattle.implicit_tiling.specs.Tile.{Tile, IsTile, root}
 use Rattle.implicit_tiling.specs.Scene.{Layout}
-use Rattle.implicit_tiling.specs.Availability.{local_level, is_subtree_root}
+use Rattle.implicit_tiling.specs.Availability.{local_level, is_subtree_root, IsRootOf}
 use Rattle.implicit_tiling.specs.Code.{word_level, word_index, word_tile}
 use Rattle.implicit_tileset.specs.Scene.{subtree_name}
 use Rattle.tiling_laws.proofs.TileAt.{tile_at_is_tile, tile_at_level}
@@ -23,7 +23,6 @@ use Rattle.scene_ports.specs.Keeper.{PutsKnown}
 use Rattle.scene_ports.specs.declared.keeper.Put.TheVariants.{Kept}
 use Rattle.tile_builder.specs.declared.builder.BuildStop.{BuildStop}
 use Rattle.tile_builder.specs.Puts.{ArePut, Stops, IfTold, put_of}
-use Rattle.tile_builder.specs.Roots.{IsRootOf}
 use Rattle.tile_builder.proofs.Putting.{none_before, split_at, told_first, told_more, told_stop}
 
 abbrev pub file_of : Layout → List ℕ → Tile → List ℕ × List ℕ

@@ -1,4 +1,3 @@
 pub mod Puts
 pub mod Runs
-pub mod Roots
 pub mod Bits

@@ -10,7 +10,7 @@ ghost use Rattle.subtree_write.specs.Canonical.{canonical};
 ghost use Rattle.build_laws.specs.Made.{made_files, made_roots, made_subtree};
 ghost use Rattle.build_laws.specs.Holds.{AreWordsOf, HoldsTiles};
 ghost use Rattle.tile_builder.specs.Puts.{ArePut, Stops, IfTold, put_of};
-ghost use Rattle.tile_builder.specs.Roots.{IsRootOf};
+ghost use Rattle.implicit_tiling.specs.Availability.{IsRootOf};
 
 use crate::file::MadeFile;
 use scene_ports::{FileKeeper, Put};

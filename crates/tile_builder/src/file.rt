@@ -4,7 +4,7 @@ ghost use Rattle.implicit_tileset.specs.Scene.{subtree_name};
 ghost use Rattle.subtree_write.specs.Canonical.{canonical};
 ghost use Rattle.build_laws.specs.Holds.{AreWordsOf};
 ghost use Rattle.build_laws.specs.Made.{made_subtree as made_subtree_of};
-ghost use Rattle.tile_builder.specs.Roots.{IsRootOf};
+ghost use Rattle.implicit_tiling.specs.Availability.{IsRootOf};
 
 use crate::subtree::made_subtree;
 use std::alloc::{AllocError, Global};

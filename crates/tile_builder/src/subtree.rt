@@ -3,7 +3,7 @@ ghost use Rattle.std.specs.Prelude.{◌≡◌, ◌<◌, ◌≤◌, IfOk};
 ghost use Rattle.tile_occupancy.specs.Occupied.{IsOccupancy};
 ghost use Rattle.build_laws.specs.Holds.{AreWordsOf};
 ghost use Rattle.build_laws.specs.Made.{made_subtree as made_subtree_of};
-ghost use Rattle.tile_builder.specs.Roots.{IsRootOf};
+ghost use Rattle.implicit_tiling.specs.Availability.{IsRootOf};
 ghost use Rattle.tile_builder.specs.Runs.{inner_words as inner_words_of};
 
 use crate::bits::{child_bits, content_bits, node_bits};

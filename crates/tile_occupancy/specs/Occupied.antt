@@ -1,8 +1,8 @@
 -- The tiles that are there, as a list of words, and what makes such a list whole (this project's own).
-use Rattle.std.specs.Prelude.{ℕ, ◌≡◌, ◌<◌, ◌⊎◌, ◌&&◌, ◌==◌, Bool, true, List, map}
-use Rattle.std.specs.List.{All, AllPairs, Contains}
+use Rattle.std.specs.Prelude.{ℕ, ◌≡◌, ◌<◌, ◌⊎◌, ◌&&◌, ◌==◌, Bool, List, map}
+use Rattle.std.specs.List.{All, Contains}
 use Rattle.implicit_tiling.specs.declared.Scheme.{Scheme}
-use Rattle.implicit_tiling.specs.Tile.{Tile, root, parent, is_key_below}
+use Rattle.implicit_tiling.specs.Tile.{Tile, root, parent, IsInKeyOrder}
 use Rattle.implicit_tiling.specs.Code.{word_level, word_tile, IsWord}
 
 pub record Occupancy : Type 0 where
@@ -25,9 +25,9 @@ is_same t u = t.level == u.level && t.x == u.x && t.y == u.y && t.z == u.z
 abbrev pub tiles_of : Scheme → List ℕ → List Tile
 tiles_of scheme words = map (word_tile scheme) words
 
--- the key of each tile is below those of all later ones
+-- the tiles are in key order
 abbrev pub KeysRise : Scheme → List ℕ → Type 0
-KeysRise scheme words = AllPairs (λ t u. is_key_below scheme t u ≡ true) (tiles_of scheme words)
+KeysRise scheme words = IsInKeyOrder scheme (tiles_of scheme words)
 
 -- the tile is the root, or its parent is there
 abbrev pub HasParent : List Tile → Tile → Type 0

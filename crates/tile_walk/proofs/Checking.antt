@@ -31,22 +31,23 @@ use Rattle.tile_coords.specs.declared.walk_end.CheckEnd.{CheckEnd}
 use Rattle.tile_walk.specs.Roots.{IsRootWord, AreRoots}
 use Rattle.tile_walk.specs.Outcomes.{IsFoundAt}
 use Rattle.tile_walk.specs.Walks.{IsWalked}
-use Rattle.tile_walk.specs.Checks.{fault_word, found_faults, IsOnWalk, Counts, IsCheck}
+use Rattle.tile_walk.specs.Checks.{found_faults, IsOnWalk, Counts, IsCheck}
+use Rattle.tile_coords.specs.Found.{found_of}
 use Rattle.tile_walk.proofs.Words.{child_tiles}
 use Rattle.tile_walk.proofs.Steps.{child_is_root, decoded}
 use Rattle.tile_walk.proofs.Frontier.{begins}
 
 -- the roots above a level are looked at, and those of the level come next
 pub record IsCheckedTo (s : Scene) (level : ℕ) (roots : List ℕ) (looked : ℕ) (found : List FoundFault) : Type 0 where
-  pub faults : found ≡ map (fault_word s.layout.scheme) (filter_map (fault_at s) (reached_above s level))
+  pub faults : found ≡ map (found_of s.layout.scheme) (filter_map (fault_at s) (reached_above s level))
   pub count : looked ≡ length (reached_above s level)
   pub tiles : map (word_tile s.layout.scheme) roots ≡ walk_roots s (whole_of s) level
 
 -- the faults of some roots and then of others
 faults-append : (s : Scene) (rs ts : List Tile)
-    → map (fault_word s.layout.scheme) (filter_map (fault_at s) (rs ++ ts)) ≡ map (fault_word s.layout.scheme) (filter_map (fault_at s) rs) ++ map (fault_word s.layout.scheme) (filter_map (fault_at s) ts)
+    → map (found_of s.layout.scheme) (filter_map (fault_at s) (rs ++ ts)) ≡ map (found_of s.layout.scheme) (filter_map (fault_at s) rs) ++ map (found_of s.layout.scheme) (filter_map (fault_at s) ts)
 faults-append s rs ts =
-    ap (map (fault_word s.layout.scheme)) (filter_map-append (fault_at s) rs ts) ∙ map-append (fault_word s.layout.scheme) (filter_map (fault_at s) rs) (filter_map (fault_at s) ts)
+    ap (map (found_of s.layout.scheme)) (filter_map-append (fault_at s) rs ts) ∙ map-append (found_of s.layout.scheme) (filter_map (fault_at s) rs) (filter_map (fault_at s) ts)
 
 pub found_faults-more : (s : Scene) (roots : List ℕ) (i : ℕ) (old mid new : List FoundFault) → i < length roots → mid ≡ old ++ found_faults s (take i roots)
     → new ≡ mid ++ found_faults s (get_or roots i 0 ∷ []) → new ≡ old ++ found_faults s (take (i + 1) roots)
@@ -55,7 +56,7 @@ found_faults-more s roots i old mid new low so more =
     let r = get_or roots i 0 in
     more ∙ ap (λ w. w ++ found_faults s (r ∷ [])) so ∙ append_assoc old (found_faults s (take i roots)) (found_faults s (r ∷ []))
     ∙ ap (λ w. old ++ w) (sym (faults-append s (map f (take i roots)) (f r ∷ []))
-    ∙ ap (λ ts. map (fault_word s.layout.scheme) (filter_map (fault_at s) ts)) (sym (map-append f (take i roots) (r ∷ [])) ∙ ap (map f) (sym (take_more roots i 0 low))))
+    ∙ ap (λ ts. map (found_of s.layout.scheme) (filter_map (fault_at s) ts)) (sym (map-append f (take i roots) (r ∷ [])) ∙ ap (map f) (sym (take_more roots i 0 low))))
 
 -- a root's word is that of its tile
 word_again : (layout : Layout) (level w : ℕ) → IsRootWord layout level w → word layout.scheme (word_tile layout.scheme w) 0 ≡ w
@@ -68,7 +69,7 @@ pub one_fault : (s : Scene) (level w n : ℕ) (r : Tile) (old new : List FoundFa
 one_fault s level w n r old new root same is more =
     let t = word_tile s.layout.scheme w in
     let fault : fault_of (s.outcome t) ≡ Some n = ap (λ u. fault_of (s.outcome u)) (sym same) ∙ ap fault_of is in
-    let seen : Option ℕ → List FoundFault = λ o. map (fault_word s.layout.scheme) (cons_option (option_map (λ k. (t, k)) o) []) in
+    let seen : Option ℕ → List FoundFault = λ o. map (found_of s.layout.scheme) (cons_option (option_map (λ k. (t, k)) o) []) in
     let one : ℕ → List FoundFault = λ v. record { root = v; number = n } ∷ [] in
     more ∙ ap (λ fs. old ++ fs) (sym (ap seen fault ∙ ap one (word_again s.layout level w root)))
 
@@ -123,7 +124,7 @@ check_is_cut s level roots looked found new end is are counts more so =
     let all = reached_at_a_root s level before (f (get_or roots i 0)) after r.at_start r.below parts in
     let count : length done ≡ end.looked = omega (arith, length-append (reached_above s level) before, length-map (take i roots) f, length-take-le i roots (omega (arith, low)), is.count, counts.some) in
     let c = checked_is_cut s done (f (get_or roots i 0)) rest all (count ∙ cut.0) in
-    let fw = map (fault_word s.layout.scheme) in
+    let fw = map (found_of s.layout.scheme) in
     record {
       faults_are = so ∙ ap (λ fs. fs ++ found_faults s (take i roots)) is.faults ∙ sym (faults-append s (reached_above s level) before) ∙ ap (λ (k : Checked). fw k.faults) (sym c);
       looked_is = sym count ∙ ap (λ (k : Checked). length k.looked) (sym c);
@@ -144,7 +145,7 @@ check_goes_on s level next_level roots none next looked found new end some start
     let taken : take (end.looked - looked) roots ≡ roots = take_all (end.looked - looked) roots (omega (arith, count)) in
     let done : reached_above s (level + s.layout.subtree_levels) ≡ reached_above s level ++ these = reached_go_down s level some start ∙ ap (λ ts. reached_above s level ++ ts) (sym is.tiles) in
     let P : ℕ → Type 0 = λ l. IsCheckedTo s l next end.looked new in
-    let fw = map (fault_word s.layout.scheme) in
+    let fw = map (found_of s.layout.scheme) in
     subst P (sym up) (record {
       faults = so ∙ ap (λ ws. found ++ found_faults s ws) taken ∙ ap (λ fs. fs ++ found_faults s roots) is.faults ∙ sym (faults-append s (reached_above s level) these)
           ∙ ap (λ ts. fw (filter_map (fault_at s) ts)) (sym done);
@@ -159,7 +160,7 @@ pub check_is_all : (s : Scene) (level : ℕ) (roots : List ℕ) (looked : ℕ) (
 check_is_all s level roots looked found end some high is few same more =
     let all = reached_are_all s level some high in
     let c = checked_is_all s (omega (arith, few, is.count, ap (length {A = Tile}) all)) in
-    let fw = map (fault_word s.layout.scheme) in
+    let fw = map (found_of s.layout.scheme) in
     record {
       faults_are = is.faults ∙ ap (λ ts. fw (filter_map (fault_at s) ts)) all ∙ ap (λ (k : Checked). fw k.faults) (sym c);
       looked_is = same ∙ is.count ∙ ap (length {A = Tile}) all ∙ ap (λ (k : Checked). length k.looked) (sym c);

@@ -13,7 +13,7 @@ use Rattle.implicit_tiling.specs.Scene.{Layout, Scene, good, bad, fault_of}
 use Rattle.implicit_tiling.specs.Availability.{is_reached}
 use Rattle.implicit_tiling.specs.Answer.{most_tiles}
 use Rattle.implicit_tiling.specs.Subtree.{Subtree, IsSubtree, IsOf, bits_of}
-use Rattle.implicit_tiling.specs.Code.{word_tile, IsWord}
+use Rattle.implicit_tiling.specs.Code.{word_tile, IsWord, tile_word}
 use Rattle.implicit_tiling.specs.Nodes.{level_words, child_words}
 use Rattle.implicit_tiling.specs.Steps.{pair_of, segment, root_level, pair_fault}
 use Rattle.region_scan.specs.NodeLaws.{IsNodeWord}
@@ -30,7 +30,7 @@ use Rattle.tile_coords.specs.declared.walk_end.WalkEnd.TheVariants.{Partial, Com
 use Rattle.tile_walk.specs.Appended.{Appends, if_last_words}
 use Rattle.tile_walk.specs.Roots.{IsRootWord, AreRoots, AreWords}
 use Rattle.tile_walk.specs.Outcomes.{IsFoundAt}
-use Rattle.tile_walk.specs.Walks.{tile_word, pair_words, word_pair, Walks, if_last, next_roots, AreFound, IsWalked, EndsAtWord}
+use Rattle.tile_walk.specs.Walks.{pair_words, word_pair, Walks, if_last, next_roots, AreFound, IsWalked, EndsAtWord}
 use Rattle.tile_walk.proofs.Words.{child_tiles}
 
 -- the words of a local level are words

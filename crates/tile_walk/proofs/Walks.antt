@@ -7,7 +7,7 @@ use Rattle.std.proofs.lemmas.Grind.{flat_map-append}
 use Rattle.implicit_tiling.specs.Tile.{Tile}
 use Rattle.implicit_tiling.specs.Region.{Region}
 use Rattle.implicit_tiling.specs.Scene.{Scene}
-use Rattle.implicit_tiling.specs.Code.{word_tile}
+use Rattle.implicit_tiling.specs.Code.{word_tile, tile_word}
 use Rattle.implicit_tiling.specs.Answer.{fault, Answer, answer, most_tiles}
 use Rattle.implicit_tiling.specs.Steps.{Pair, pair_of, segment, pair_fault, pairs, walk_roots, ended}
 use Rattle.walk_laws.specs.Pairs.{tiles_of_pairs, level_pairs, pairs_above}
@@ -16,7 +16,7 @@ use Rattle.walk_laws.proofs.Pairs.{pairs_go_down, pairs_above_come_first}
 use Rattle.walk_laws.proofs.PairAnswers.{answer_is_complete, answer_stops_at_a_fault, answer_is_cut}
 use Rattle.tile_coords.specs.declared.walk_end.WalkEnd.{WalkEnd}
 use Rattle.tile_coords.specs.declared.walk_end.WalkEnd.TheVariants.{Partial, Complete, TooMany, Fault}
-use Rattle.tile_walk.specs.Walks.{tile_word, pair_words, word_pair, Walks, GoesOn, IsAnswer}
+use Rattle.tile_walk.specs.Walks.{pair_words, word_pair, Walks, GoesOn, IsAnswer}
 
 pub pair_words-append : (s : Scene) (region : Region) (ps qs : List Pair) → pair_words s region (ps ++ qs) ≡ pair_words s region ps ++ pair_words s region qs
 pair_words-append s region ps qs =

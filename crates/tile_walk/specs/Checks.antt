@@ -2,22 +2,18 @@
 use Rattle.std.specs.Prelude.{ℕ, ◌≡◌, ◌+◌, ◌<◌, ◌≤◌, true, false, List, length, map}
 use Rattle.std.specs.List.{filter_map, All}
 use Rattle.implicit_tiling.specs.declared.Scheme.{Scheme}
-use Rattle.implicit_tiling.specs.Tile.{Tile}
 use Rattle.implicit_tiling.specs.Region.{Region}
 use Rattle.implicit_tiling.specs.Scene.{Scene}
 use Rattle.implicit_tiling.specs.Answer.{is_on_walk, fault_at}
 use Rattle.implicit_tiling.specs.Checked.{most_roots, checked}
-use Rattle.implicit_tiling.specs.Code.{word, word_tile, IsWord}
+use Rattle.implicit_tiling.specs.Code.{word_tile, IsWord}
 use Rattle.tile_coords.specs.declared.walk_end.FoundFault.{FoundFault}
 use Rattle.tile_coords.specs.declared.walk_end.CheckEnd.{CheckEnd}
-
--- a root's fault, by the root's word
-abbrev pub fault_word : Scheme → Tile × ℕ → FoundFault
-fault_word scheme found = record { root = word scheme found.0 0; number = found.1 }
+use Rattle.tile_coords.specs.Found.{found_of}
 
 -- the faults of the files of some roots, in their order
 abbrev pub found_faults : Scene → List ℕ → List FoundFault
-found_faults s roots = map (fault_word s.layout.scheme) (filter_map (fault_at s) (map (word_tile s.layout.scheme) roots))
+found_faults s roots = map (found_of s.layout.scheme) (filter_map (fault_at s) (map (word_tile s.layout.scheme) roots))
 
 abbrev pub IsOnWalk : Scene → Region → ℕ → Type 0
 IsOnWalk s region w = is_on_walk s region (word_tile s.layout.scheme w) ≡ true
@@ -40,6 +36,6 @@ pub record Counts (looked roots : ℕ) (end : CheckEnd) : Type 0 where
 
 -- the faults and the end are those of the check of a scene
 pub record IsCheck (s : Scene) (found : List FoundFault) (end : CheckEnd) : Type 0 where
-  pub faults_are : found ≡ map (fault_word s.layout.scheme) (checked s).faults
+  pub faults_are : found ≡ map (found_of s.layout.scheme) (checked s).faults
   pub looked_is : end.looked ≡ length (checked s).looked
   pub more_is : end.more ≡ (checked s).more

@@ -1,18 +1,11 @@
--- Subtree roots and tiles as words (this project's own).
+-- Subtree roots and tiles, as words (this project's own).
 use Rattle.std.specs.Prelude.{ℕ, ◌≡◌, ◌%◌, ◌<◌, List}
 use Rattle.std.specs.List.{All}
 use Rattle.implicit_tiling.specs.declared.Scheme.{Scheme}
-use Rattle.implicit_tiling.specs.Tile.{Tile, IsTile}
 use Rattle.implicit_tiling.specs.Scene.{Layout}
 use Rattle.implicit_tiling.specs.Code.{IsWord, word_level, word_mask}
 
--- a tile of the scheme with which a subtree of the layout may begin
-pub record IsRootTile (layout : Layout) (r : Tile) : Type 0 where
-  pub below : r.level < layout.levels
-  pub at_start : r.level % layout.subtree_levels ≡ 0
-  pub is_tile : IsTile layout.scheme r
-
--- the word, with mask 0, of such a tile of a level
+-- the word, with mask 0, of a tile of a level with which a subtree of the layout may begin
 pub record IsRootWord (layout : Layout) (level w : ℕ) : Type 0 where
   pub is_word : IsWord layout.scheme w
   pub no_mask : word_mask w ≡ 0

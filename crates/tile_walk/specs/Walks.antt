@@ -4,8 +4,7 @@ use Rattle.implicit_tiling.specs.declared.Scheme.{Scheme}
 use Rattle.implicit_tiling.specs.Tile.{Tile}
 use Rattle.implicit_tiling.specs.Region.{Region}
 use Rattle.implicit_tiling.specs.Scene.{Layout, Scene, fault_of}
-use Rattle.implicit_tiling.specs.Availability.{mask}
-use Rattle.implicit_tiling.specs.Code.{word, word_tile, IsWord}
+use Rattle.implicit_tiling.specs.Code.{tile_word, word_tile, IsWord}
 use Rattle.implicit_tiling.specs.Answer.{is_on_walk, most_tiles, answer}
 use Rattle.implicit_tiling.specs.Steps.{Pair, pair_of, pair_fault, ended}
 use Rattle.walk_laws.specs.Children.{roots_below}
@@ -15,10 +14,7 @@ use Rattle.tile_coords.specs.declared.walk_end.WalkEnd.TheVariants.{Partial, Com
 use Rattle.tile_coords.specs.Ends.{end_seen}
 use Rattle.tile_walk.specs.Roots.{AreWords}
 
--- the word of a tile with its contents, and those of the tiles of some pairs
-abbrev pub tile_word : Scene → Tile → ℕ
-tile_word s t = word s.layout.scheme t (mask s t)
-
+-- the words of the tiles of some pairs
 abbrev pub pair_words : Scene → Region → List Pair → List ℕ
 pair_words s region ps = map (tile_word s) (tiles_of_pairs s region ps)
 

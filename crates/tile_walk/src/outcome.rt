@@ -3,7 +3,7 @@ ghost use Rattle.std.specs.Prelude.{◌≡◌, ◌≢◌, ◌≤◌, IfOk, IfSom
 ghost use Rattle.implicit_tileset.specs.Scene.{scene_of};
 ghost use Rattle.scene_ports.specs.Counts.{Rose, one_more};
 ghost use Rattle.tile_walk.specs.Outcomes.{outcome_seen, IsOutcomeAt};
-ghost use Rattle.tile_walk.specs.Roots.{IsRootTile};
+ghost use Rattle.implicit_tiling.specs.Availability.{IsRootOf};
 
 use availability::Subtree;
 use scene_ports::{Fetch, FileSource};
@@ -58,7 +58,7 @@ pub fn read_subtree<S: FileSource>(
     layout: &Layout,
     root: Tile,
 ) -> Result<Outcome, WalkStop>
-    requires { IsRootTile layout.now root }
+    requires { IsRootOf layout.now root }
     ensures told { IfSome (S.told files.old) (λ all. IfOk result (λ found. (scene_of all layout.now).outcome root ≡ outcome_seen found)) }
     ensures found { IfOk result (IsOutcomeAt layout.now root) }
     ensures failed { result ≡ Err WalkStop.ReadFault → Rose (S.faults files.old) (S.faults files.new) }

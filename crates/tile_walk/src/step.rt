@@ -7,7 +7,8 @@ ghost use Rattle.implicit_tiling.specs.Steps.{root_level};
 ghost use Rattle.implicit_tileset.specs.Scene.{scene_of};
 ghost use Rattle.scene_ports.specs.Counts.{Rose};
 ghost use Rattle.tile_walk.specs.Appended.{Appends};
-ghost use Rattle.tile_walk.specs.Roots.{IsRootTile, IsRootWord, AreRoots};
+ghost use Rattle.tile_walk.specs.Roots.{IsRootWord, AreRoots};
+ghost use Rattle.implicit_tiling.specs.Availability.{IsRootOf};
 ghost use Rattle.tile_walk.specs.Walks.{Walks, word_pair, next_roots, AreFound, IsWalked, EndsAtWord};
 
 use crate::outcome::{Outcome, WalkStop, read_subtree};
@@ -62,7 +63,7 @@ pub(crate) fn step<S: FileSource>(
 pub(crate) fn root_tile(layout: &Layout, root: Word) -> Tile
     requires { IsRootWord layout.now (word_level root) root }
     ensures tile { result ≡ word_tile layout.now.scheme root }
-    ensures root { IsRootTile layout.now result }
+    ensures root { IsRootOf layout.now result }
     ensures level { result.level ≡ word_level root }
     ensures some_levels { 1 ≤ layout.now.subtree_levels }
 {

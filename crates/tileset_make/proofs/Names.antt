@@ -10,7 +10,7 @@ use Rattle.implicit_tiling.specs.declared.Scheme.{Scheme}
 use Rattle.implicit_tiling.specs.declared.Scheme.TheVariants.{Quad, Oct}
 use Rattle.implicit_tiling.specs.Limits.{most_levels}
 use Rattle.implicit_tiling.specs.Files.{file}
-use Rattle.implicit_tiling.specs.Tile.{Tile, is_key_below}
+use Rattle.implicit_tiling.specs.Tile.{Tile, is_key_below, IsInKeyOrder}
 use Rattle.implicit_tiling.specs.Scene.{Layout}
 use Rattle.implicit_tiling.specs.Template.{filled}
 use Rattle.implicit_tileset.specs.Scene.{subtree_name}
@@ -133,7 +133,7 @@ below_is_another scheme t u below same =
     let never = (keys_are_an_order scheme).irreflexive t in cc
 
 -- the tiles of words, and those of them with which subtrees begin, have names of their own
-pub names_of_tiles : (scheme : Scheme) (ts : List Tile) → All (HasWord scheme) ts → AllPairs (λ t u. is_key_below scheme t u ≡ true) ts
+pub names_of_tiles : (scheme : Scheme) (ts : List Tile) → All (HasWord scheme) ts → IsInKeyOrder scheme ts
     → AllPairs (λ t u. name_of scheme u ≢ name_of scheme t) ts
 names_of_tiles scheme ts have rise i j d low within e =
     let t = get_or ts i d in

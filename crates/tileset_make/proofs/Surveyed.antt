@@ -6,7 +6,7 @@ use Rattle.std.proofs.lemmas.List.{take-map}
 use Rattle.std.proofs.lemmas.List.Elements.{All-head, All-tail}
 use Rattle.implicit_tiling.specs.declared.Scheme.{Scheme}
 use Rattle.implicit_tiling.specs.Answer.{complete, too_many, fault, most_tiles, Answer}
-use Rattle.implicit_tiling.specs.Code.{word, word_tile}
+use Rattle.implicit_tiling.specs.Code.{word, word_tile, tile_word}
 use Rattle.implicit_tiling.specs.Scene.{Scene}
 use Rattle.implicit_tiling.specs.Steps.{partial, ended}
 use Rattle.implicit_tiling.specs.Tile.{Tile}
@@ -16,7 +16,7 @@ use Rattle.tile_coords.specs.Ends.{end_seen}
 use Rattle.tile_coords.specs.declared.walk_end.WalkEnd.{WalkEnd}
 use Rattle.tile_coords.specs.declared.walk_end.WalkEnd.TheVariants.{Partial, Complete, TooMany, Fault}
 use Rattle.availability.proofs.Tiles.{parts_have_their_word}
-use Rattle.tile_walk.specs.Walks.{tile_word, IsAnswer}
+use Rattle.tile_walk.specs.Walks.{IsAnswer}
 use Rattle.tile_occupancy.specs.Occupied.{tiles_of, IsOccupancy}
 use Rattle.build_laws.specs.Holds.{HoldsTiles}
 use Rattle.build_laws.specs.Laws.{end_after}

@@ -7,7 +7,7 @@ use Rattle.std.proofs.lemmas.List.Elements.{All-append, All-head, All-tail, All-
 use Rattle.std.proofs.lemmas.List.Kept.{AllPairs-cons}
 use Rattle.std.proofs.lemmas.List.FromFn.{get_or-map-range_with_len}
 use Rattle.implicit_tiling.specs.declared.Scheme.{Scheme}
-use Rattle.implicit_tiling.specs.Tile.{Tile, IsTile, branching, index, is_key_below, tile_at, tiles_of_level, all_tiles}
+use Rattle.implicit_tiling.specs.Tile.{Tile, IsTile, branching, index, is_key_below, IsInKeyOrder, tile_at, tiles_of_level, all_tiles}
 use Rattle.tiling_laws.specs.Order.{IsStrictOrder}
 use Rattle.tiling_laws.proofs.Index.{index_below}
 use Rattle.tiling_laws.proofs.TileAt.{tile_at_level, tile_at_is_tile, index_of_tile_at, tile_at_index, tile_from_index}
@@ -76,7 +76,7 @@ all_pairs_append R (x ∷ xs) ys first rest cross =
 level_tile : (scheme : Scheme) (level i : ℕ) (d : Tile) → i < branching scheme ^ level → get_or (tiles_of_level scheme level) i d ≡ tile_at scheme level i
 level_tile scheme level i d h = get_or-map-range_with_len (tile_at scheme level) 0 (branching scheme ^ level) i i d h (zero-add i)
 
-level_rises : (scheme : Scheme) (level : ℕ) → AllPairs (λ t u. is_key_below scheme t u ≡ true) (tiles_of_level scheme level)
+level_rises : (scheme : Scheme) (level : ℕ) → IsInKeyOrder scheme (tiles_of_level scheme level)
 level_rises scheme level = λ i j d low within.
     let high : j < branching scheme ^ level = omega (arith, length-tiles_of_level scheme level) in
     let before : i < branching scheme ^ level = omega arith in
@@ -102,7 +102,7 @@ of_levels P scheme (suc n) h =
 pub of_all_tiles : (P : Tile → Type 0) (scheme : Scheme) (last : ℕ) → ((level i : ℕ) → level ≤ last → P (tile_at scheme level i)) → All P (all_tiles scheme last)
 of_all_tiles P scheme last h = of_levels P scheme (last + 1) (λ level i low. h level i (omega arith))
 
-levels_rise : (scheme : Scheme) (n : ℕ) → AllPairs (λ t u. is_key_below scheme t u ≡ true) (flat_map (tiles_of_level scheme) (range_with_len 0 n))
+levels_rise : (scheme : Scheme) (n : ℕ) → IsInKeyOrder scheme (flat_map (tiles_of_level scheme) (range_with_len 0 n))
 levels_rise scheme zero = λ i j d low within. absurd (omega arith)
 levels_rise scheme (suc n) =
     let R : Tile → Tile → Type 0 = λ t u. is_key_below scheme t u ≡ true in
@@ -112,7 +112,7 @@ levels_rise scheme (suc n) =
     let more = all_pairs_append R (flat_map (tiles_of_level scheme) (range_with_len 0 n)) (tiles_of_level scheme n) (levels_rise scheme n) (level_rises scheme n) cross in
     subst (AllPairs R) (sym (ap (λ k. flat_map (tiles_of_level scheme) (range_with_len 0 k)) (sym (add-one n)) ∙ levels_more scheme n)) more
 
-pub keys_rise : (scheme : Scheme) (last : ℕ) → AllPairs (λ t u. is_key_below scheme t u ≡ true) (all_tiles scheme last)
+pub keys_rise : (scheme : Scheme) (last : ℕ) → IsInKeyOrder scheme (all_tiles scheme last)
 keys_rise scheme last = levels_rise scheme (last + 1)
 
 -- membership

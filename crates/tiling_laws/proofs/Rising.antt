@@ -5,7 +5,7 @@ use Rattle.std.specs.List.{All, AllPairs, Contains, filter}
 use Rattle.std.proofs.lemmas.Bool.{cases_Bool, both_ways, cond-true, cond-false}
 use Rattle.std.proofs.lemmas.List.Elements.{All-contains, All-contains_itself, All-filter, filter_passes}
 use Rattle.implicit_tiling.specs.declared.Scheme.{Scheme}
-use Rattle.implicit_tiling.specs.Tile.{Tile, is_key_below}
+use Rattle.implicit_tiling.specs.Tile.{Tile, is_key_below, IsInKeyOrder}
 use Rattle.tiling_laws.proofs.Order.{keys_are_an_order}
 
 -- the elements of a list with one more
@@ -73,8 +73,8 @@ keys_are_strict scheme = record {
   transitive = (keys_are_an_order scheme).transitive;
 }
 
-pub rising_tiles_are_one : (scheme : Scheme) (one other : List Tile) → AllPairs (λ t u. is_key_below scheme t u ≡ true) one
-    → AllPairs (λ t u. is_key_below scheme t u ≡ true) other → ((t : Tile) → Contains one t ↔ Contains other t) → one ≡ other
+pub rising_tiles_are_one : (scheme : Scheme) (one other : List Tile) → IsInKeyOrder scheme one → IsInKeyOrder scheme other
+    → ((t : Tile) → Contains one t ↔ Contains other t) → one ≡ other
 rising_tiles_are_one scheme = rising_lists_are_one (λ t u. is_key_below scheme t u ≡ true) (keys_are_strict scheme)
 
 -- a filtered list has the elements that pass

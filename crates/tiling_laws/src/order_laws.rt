@@ -1,5 +1,5 @@
 // Laws of the order of tiles by their keys (this project's own).
-ghost use Rattle.tiling_laws.specs.Order.{KeysAreAnOrder, KeysRise, AllTilesAreThere, RisingListsAreOne};
+ghost use Rattle.tiling_laws.specs.Order.{KeysAreAnOrder, AllTilesAreInKeyOrder, AllTilesAreThere, RisingListsAreOne};
 
 /// Keys are a strict total order of the tiles of a scheme.
 pub fn keys_are_a_strict_order()
@@ -8,7 +8,7 @@ pub fn keys_are_a_strict_order()
 
 /// Along the list of all tiles each key is below those of all later tiles.
 pub fn keys_rise_along_all_tiles()
-    ensures { KeysRise }
+    ensures { AllTilesAreInKeyOrder }
 {}
 
 /// The list of all tiles has each tile of the levels 0 to last, and nothing else.
@@ -16,7 +16,7 @@ pub fn all_tiles_are_in_their_list()
     ensures { AllTilesAreThere }
 {}
 
-/// Two lists along which the keys rise, and which have the same tiles, are one list.
+/// Two lists in key order which have the same tiles are one list.
 pub fn rising_lists_are_one()
     ensures { RisingListsAreOne }
 {}

@@ -10,7 +10,8 @@ use Rattle.implicit_tiling.specs.Region.{Region, is_in}
 use Rattle.implicit_tiling.specs.Scene.{Layout, Outcome, Scene, bad, child_bit_of}
 use Rattle.implicit_tiling.specs.Availability.{local_level, subtree_root, is_subtree_root, child_bit, is_available, is_reached}
 use Rattle.implicit_tiling.specs.Answer.{is_on_walk}
-use Rattle.implicit_tiling.specs.Subtree.{Subtree, bit_at, has_tile, has_child}
+use Rattle.implicit_tiling.specs.Subtree.{Subtree, has_tile, has_child}
+use Rattle.implicit_tiling.specs.Bits.{bit_at}
 use Rattle.implicit_tiling.specs.Nodes.{node_at, indices, is_child_in, children_in}
 use Rattle.implicit_tiling.specs.Steps.{descendants, root_level, walk_roots}
 use Rattle.tiling_laws.proofs.TileAt.{tile_at_is_tile, tile_at_level}

@@ -10,7 +10,7 @@ use Rattle.implicit_tiling.specs.Region.{Region, is_in}
 use Rattle.implicit_tiling.specs.Scene.{Scene}
 use Rattle.implicit_tiling.specs.Availability.{is_available, mask}
 use Rattle.implicit_tiling.specs.Subtree.{Subtree, has_tile, has_orphan, contents_mask}
-use Rattle.implicit_tiling.specs.Code.{word}
+use Rattle.implicit_tiling.specs.Code.{word, tile_word}
 use Rattle.implicit_tiling.specs.Nodes.{node_at, indices, is_tile_in, tiles_in, node_word, level_words}
 use Rattle.implicit_tiling.specs.Steps.{descendants, pair_of, segment}
 use Rattle.walk_laws.specs.Decoded.{IsDecoded}
@@ -89,9 +89,9 @@ of_tiles_in P st region k h =
     λ i d below. low i d below (passes i d below)
 
 pub node_words : (s : Scene) (region : Region) (st : Subtree) (k : ℕ) → IsDecoded s st → k < st.levels
-    → map (λ t. word s.layout.scheme t (mask s t)) (segment s region (pair_of (st.root.level + k) st.root)) ≡ level_words st region k
+    → map (tile_word s) (segment s region (pair_of (st.root.level + k) st.root)) ≡ level_words st region k
 node_words s region st k is low =
-    let f : Tile → ℕ = λ t. word s.layout.scheme t (mask s t) in
+    let f : Tile → ℕ = tile_word s in
     let same : All (λ m. f (node_at st k m) ≡ node_word st k m) (tiles_in st region k) =
     of_tiles_in (λ m. f (node_at st k m) ≡ node_word st k m) st region k
     (λ m h there within. let t = node_at st k m in

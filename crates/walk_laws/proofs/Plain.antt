@@ -10,7 +10,8 @@ use Rattle.implicit_tiling.specs.declared.Scheme.TheVariants.{Quad, Oct}
 use Rattle.implicit_tiling.specs.Tile.{Tile, IsTile, branching, parent, child, index, tile_at}
 use Rattle.implicit_tiling.specs.Scene.{Layout, Outcome, Scene, good, tile_bit_of, fault_of, content_bits_of}
 use Rattle.implicit_tiling.specs.Availability.{subtree_root, nodes_above, place, tile_bit, is_available, is_reached, mask_from, mask}
-use Rattle.implicit_tiling.specs.Subtree.{Subtree, IsOf, bit_at, is_kept, node_bit, has_tile, has_orphan, mask_of_bits, contents_mask, bits_of}
+use Rattle.implicit_tiling.specs.Subtree.{Subtree, IsOf, is_kept, node_bit, has_tile, has_orphan, mask_of_bits, contents_mask, bits_of}
+use Rattle.implicit_tiling.specs.Bits.{bit_at}
 use Rattle.tiling_laws.proofs.Subtrees.{ancestor_none}
 use Rattle.tiling_laws.proofs.Ancestors.{parent_of_child}
 use Rattle.tiling_laws.proofs.Available.{reached_says, available_as_written}

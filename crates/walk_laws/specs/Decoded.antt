@@ -6,7 +6,7 @@ use Rattle.implicit_tiling.specs.Region.{Region}
 use Rattle.implicit_tiling.specs.Scene.{Scene, good}
 use Rattle.implicit_tiling.specs.Availability.{is_available, is_reached, mask}
 use Rattle.implicit_tiling.specs.Subtree.{Subtree, IsSubtree, IsOf, has_orphan, has_tile, contents_mask, bits_of}
-use Rattle.implicit_tiling.specs.Code.{word}
+use Rattle.implicit_tiling.specs.Code.{tile_word}
 use Rattle.implicit_tiling.specs.Nodes.{node_at, tiles_in, level_words}
 use Rattle.implicit_tiling.specs.Steps.{pair_of, segment}
 
@@ -35,4 +35,4 @@ NodesMakeASegment = (s : Scene) (region : Region) (st : Subtree) (k : ℕ) → I
 
 abbrev pub NodeWordsAreTileWords : Type 0
 NodeWordsAreTileWords = (s : Scene) (region : Region) (st : Subtree) (k : ℕ) → IsDecoded s st → k < st.levels
-    → map (λ t. word s.layout.scheme t (mask s t)) (segment s region (pair_of (st.root.level + k) st.root)) ≡ level_words st region k
+    → map (tile_word s) (segment s region (pair_of (st.root.level + k) st.root)) ≡ level_words st region k

@@ -1,6 +1,6 @@
 -- The parent of the next node is there, or that node is the one that is looked for.
 use Rattle.std.proofs.Common.{◌+◌, ◌-◌, ◌*◌, ◌/◌, ◌%◌, ◌^◌, arith, sym, ◌∙◌}
-use Rattle.implicit_tiling.specs.Subtree.{bit_at}
+use Rattle.implicit_tiling.specs.Bits.{bit_at}
 use Rattle.bitstream.specs.Bits.{IsFirstOne}
 use Rattle.availability.proofs.Places.{nodes_fit, level_fits}
 use Rattle.availability.proofs.Orphans.{GoesOn, orphan_found, goes_on, parent_place}

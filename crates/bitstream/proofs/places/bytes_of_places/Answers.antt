@@ -4,7 +4,7 @@ use Rattle.std.proofs.lemmas.List.{length-replicate, take_all}
 use Rattle.std.proofs.lemmas.List.Elements.{All-get_or}
 use Rattle.std.proofs.lemmas.List.Folds.{list_any_more}
 use Rattle.std.proofs.lemmas.Grind.{get_or_default_zero}
-use Rattle.bitstream.specs.Bits.{bit_of_bytes}
+use Rattle.implicit_tiling.specs.Bits.{bit_of_bytes}
 use Rattle.bitstream.specs.Bytes.{bytes_filled}
 use Rattle.bitstream.proofs.Put.{bit-set, bit-zeros}
 use Rattle.bitstream.proofs.places.bytes_of_places.Goals as goal

@@ -1,6 +1,6 @@
 use Rattle.std.proofs.Common.{◌≡◌, ℕ, ◌<◌, eqb, take, length}
 use Rattle.std.specs.List.{list_any}
-use Rattle.bitstream.specs.Bits.{bit_of_bytes}
+use Rattle.implicit_tiling.specs.Bits.{bit_of_bytes}
 use Rattle.bitstream.specs.Bytes.{bytes_filled}
 use Rattle.bitstream.proofs.places.bytes_of_places.Given as goal
 

@@ -1,5 +1,5 @@
 use Rattle.std.proofs.Common.{◌*◌}
-use Rattle.bitstream.specs.Bits.{digit_of_bytes}
+use Rattle.implicit_tiling.specs.Bits.{digit_of_bytes}
 use Rattle.bitstream.proofs.Apart.{KeepsTo}
 use Rattle.bitstream.proofs.within.has_all_of.Given as goal
 

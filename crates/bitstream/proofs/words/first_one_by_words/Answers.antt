@@ -1,6 +1,7 @@
 use Rattle.std.proofs.Common.{rules, ◌≡◌, ◌∙◌, ℕ, ◌+◌, ◌*◌, ◌/◌, ◌^◌, ◌<◌, List, length, drop, refl, arith, w64}
 use Rattle.std.specs.Int.{trailing_zeros}
-use Rattle.bitstream.specs.Bits.{digit_of_bytes, bit_of_bytes, HasNoOne, IsFirstOne}
+use Rattle.bitstream.specs.Bits.{HasNoOne, IsFirstOne}
+use Rattle.implicit_tiling.specs.Bits.{bit_of_bytes, digit_of_bytes}
 use Rattle.bitstream.specs.Words.{IsWordOf}
 use Rattle.bitstream.proofs.Parts.{digits_of_chunk, digits_of_rest}
 use Rattle.bitstream.proofs.Search.{Holds, whole, none_more, first_more}

@@ -1,5 +1,6 @@
 use Rattle.std.proofs.Common.{◌*◌}
-use Rattle.bitstream.specs.Bits.{bit_of_bytes, HasNoOne}
+use Rattle.bitstream.specs.Bits.{HasNoOne}
+use Rattle.implicit_tiling.specs.Bits.{bit_of_bytes}
 use Rattle.bitstream.proofs.words.first_one_by_words.Given as goal
 
 abbrev pub invariant-loop-index : goal.invariant-loop-index

@@ -1,7 +1,8 @@
 use Rattle.std.proofs.Common.{rules, ◌≡◌, ℕ, ◌+◌, ◌-◌, ◌*◌, ◌/◌, ◌%◌, ◌^◌, ◌<◌, Bool, List, length, take, drop, arith, w64}
 use Rattle.std.specs.Int.{trailing_zeros}
 use Rattle.std.proofs.lemmas.List.{take_rest}
-use Rattle.bitstream.specs.Bits.{digit_of_bytes, bit_of_bytes, HasNoOne, IsFirstOne}
+use Rattle.bitstream.specs.Bits.{HasNoOne, IsFirstOne}
+use Rattle.implicit_tiling.specs.Bits.{bit_of_bytes, digit_of_bytes}
 use Rattle.bitstream.specs.Words.{IsWordOf}
 use Rattle.bitstream.proofs.Parts.{digits_of_tail}
 use Rattle.bitstream.proofs.Search.{Holds, shifted, none_more, first_more, none_after, first_after}

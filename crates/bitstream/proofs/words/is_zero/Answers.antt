@@ -3,7 +3,8 @@ use Rattle.std.specs.Bool.{IsTrue}
 use Rattle.std.proofs.lemmas.Bool.Decides.{Decides-eqb}
 use Rattle.std.specs.Simd.{first_chunks}
 use Rattle.std.proofs.lemmas.Nat.{le_or_l, le_or_r}
-use Rattle.bitstream.specs.Bits.{digit_of_bytes, bit_of_bytes, HasNoOne}
+use Rattle.bitstream.specs.Bits.{HasNoOne}
+use Rattle.implicit_tiling.specs.Bits.{bit_of_bytes, digit_of_bytes}
 use Rattle.bitstream.specs.Words.{IsWordOf}
 use Rattle.bitstream.proofs.Parts.{digits_of_chunk}
 use Rattle.bitstream.proofs.Search.{whole, none_more}

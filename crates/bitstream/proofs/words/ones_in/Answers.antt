@@ -3,7 +3,7 @@ use Rattle.std.specs.Int.{bit_at}
 use Rattle.std.specs.Int.Count.{ones}
 use Rattle.std.proofs.lemmas.List.{get_or-take}
 use Rattle.std.proofs.lemmas.Nat.{one_shl, and_mask, ones-le, mod_below, pow_pos}
-use Rattle.bitstream.specs.Bits.{digit_of_bytes}
+use Rattle.implicit_tiling.specs.Bits.{digit_of_bytes}
 use Rattle.bitstream.proofs.Ones.{count_below, ones_more, ones-bits_of_bytes}
 use Rattle.bitstream.proofs.Parts.{digits_of_chunk, digits_of_tail}
 use Rattle.bitstream.proofs.words.ones_in.Goals as goal

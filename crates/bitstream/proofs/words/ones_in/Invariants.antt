@@ -1,5 +1,5 @@
 use Rattle.std.proofs.Common.{◌≡◌, ◌*◌, ◌≤◌}
-use Rattle.bitstream.specs.Bits.{digit_of_bytes}
+use Rattle.implicit_tiling.specs.Bits.{digit_of_bytes}
 use Rattle.bitstream.proofs.Ones.{count_below}
 use Rattle.bitstream.proofs.words.ones_in.Given as goal
 

@@ -1,7 +1,8 @@
 use Rattle.std.proofs.Common.{◌≡◌, ◌∙◌, ℕ, ◌+◌, ◌-◌, ◌*◌, ◌/◌, ◌<◌, List, [], length, get_or, take, drop, inl, inr, refl, sym, ap, arith}
 use Rattle.std.specs.Simd.{first_chunks}
 use Rattle.std.proofs.lemmas.Bool.{cases_lt}
-use Rattle.bitstream.specs.Bits.{bit_of_bytes, HasNoOne}
+use Rattle.bitstream.specs.Bits.{HasNoOne}
+use Rattle.implicit_tiling.specs.Bits.{bit_of_bytes}
 use Rattle.bitstream.proofs.Digits.{chunk_at}
 use Rattle.bitstream.proofs.Search.{bit_in-drop, bit-take}
 use Rattle.bitstream.proofs.words.zeros_in_front.Goals as goal

@@ -1,7 +1,9 @@
 use Rattle.std.proofs.Common.{◌%◌, ◌∙◌, ap, arith, subst}
+use Rattle.std.proofs.lemmas.Bool.{eq-eqb}
 use Rattle.implicit_tiling.specs.declared.Scheme.{Scheme}
 use Rattle.implicit_tiling.specs.Tile.{Tile, IsTile}
 use Rattle.implicit_tiling.specs.Scene.{Layout}
+use Rattle.implicit_tiling.specs.Availability.{local_level}
 use Rattle.implicit_tiling.specs.Code.{word_level, word_index}
 use Rattle.tiling_laws.proofs.TileAt.{tile_at_level}
 use Rattle.tile_walk.proofs.step.root_tile.Goals as goal
@@ -14,9 +16,9 @@ returns-clause-root c =
     let scheme = ap (λ (l : Layout). l.scheme) c.layout.view_is in
     let level = ap (λ (t : Tile). t.level) c.in-Some.ensures.tile ∙ tile_at_level c.layout.inside.scheme (word_level c.args.root) (word_index c.args.root) in
     record {
-      below = omega (arith, level, c.requires.below);
-      at_start = ap (λ l. l % c.args.layout.now.subtree_levels) level ∙ c.requires.at_start;
       is_tile = let P : Scheme → Type 0 = λ e. IsTile e c.in-Some.found.tile in subst P scheme c.in-Some.ensures.is_tile;
+      within = omega (arith, level, c.requires.below);
+      at_start = eq-eqb (local_level c.args.layout.now c.in-Some.found.tile) 0 (ap (λ l. l % c.args.layout.now.subtree_levels) level ∙ c.requires.at_start);
     }
 
 pub returns-clause-some_levels : goal.returns-clause-some_levels

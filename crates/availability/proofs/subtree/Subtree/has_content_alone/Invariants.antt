@@ -1,5 +1,5 @@
 use Rattle.std.proofs.Common.{◌≡◌, ℕ, ◌<◌, List, Bool, true, get_or}
-use Rattle.implicit_tiling.specs.Subtree.{bit_at}
+use Rattle.implicit_tiling.specs.Bits.{bit_at}
 use Rattle.availability.proofs.subtree.Subtree.has_content_alone.Given as goal
 
 abbrev pub invariant-loop-bits : goal.invariant-loop-bits

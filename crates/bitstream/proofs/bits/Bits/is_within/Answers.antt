@@ -1,6 +1,7 @@
 use Rattle.std.proofs.Common.{◌≤◌, length, ap, arith}
 use Rattle.std.proofs.lemmas.List.{length-replicate}
-use Rattle.bitstream.specs.Bits.{bit_at, bit_of_bytes, bits_of_bytes}
+use Rattle.bitstream.specs.Bits.{bits_of_bytes}
+use Rattle.implicit_tiling.specs.Bits.{bit_at, bit_of_bytes}
 use Rattle.bitstream.proofs.Lists.{length-bits_of_bytes, bit_at-bits_of_bytes}
 use Rattle.bitstream.proofs.Full.{full_answers, same_answer}
 use Rattle.bitstream.proofs.bits.Bits.is_within.Goals as goal

@@ -1,5 +1,6 @@
 use Rattle.std.proofs.Common.{◌≤◌, length, ap, arith}
-use Rattle.bitstream.specs.Bits.{bit_of_bytes, bits_of_bytes, bit_at}
+use Rattle.bitstream.specs.Bits.{bits_of_bytes}
+use Rattle.implicit_tiling.specs.Bits.{bit_at, bit_of_bytes}
 use Rattle.bitstream.proofs.Lists.{length-bits_of_bytes, bit_at-bits_of_bytes}
 use Rattle.bitstream.proofs.Search.{match_same}
 use Rattle.bitstream.proofs.bits.Bits.next_one.Goals as goal
