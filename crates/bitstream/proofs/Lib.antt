@@ -7,3 +7,4 @@ pub mod Search
 pub mod Apart
 pub mod Full
 pub mod Put
+pub mod Front

@@ -3,11 +3,12 @@ ghost use Rattle.std.specs.Prelude.{◌≡◌, ◌*◌, ◌<◌, ◌≤◌, ◌�
 ghost use Rattle.bitstream.specs.Bits.{bits_of_bytes, bits_of_places, ones_of, HasNoOne, IsFirstOne, IsWithin, HasOneAlone};
 ghost use Rattle.implicit_tiling.specs.Bits.{bit_at};
 ghost use Rattle.bitstream.specs.Bytes.{bytes_of_bits};
+ghost use Rattle.bitstream.specs.Words.{IsWordFrom};
 
 use crate::append::{append_constant, append_front};
 use crate::places::bytes_of_places;
 use crate::within::has_all_of;
-use crate::words::{first_one_in, ones_in};
+use crate::words::{first_one_in, low_bits, ones_in, word_at};
 use std::alloc::{AllocError, Global};
 use std::marker::Model;
 
@@ -114,6 +115,17 @@ impl Bits {
         match &self.kind {
             Kind::Constant { bit, .. } => (*bit && from < to).then_some(from),
             Kind::Bytes { bytes, .. } => first_one_in(bytes, from, to),
+        }
+    }
+
+    /// The 64 bits from a place on: bit i of the word is bit `from` + i. Bits past the end are 0.
+    pub fn word_from(&self, from: u64) -> u64
+        ensures { IsWordFrom self.now from result }
+    {
+        let left = self.count().saturating_sub(from);
+        match &self.kind {
+            Kind::Constant { bit, .. } => { if *bit { low_bits(u64::MAX, left) } else { 0 } }
+            Kind::Bytes { bytes, .. } => low_bits(word_at(bytes, from), left),
         }
     }
 

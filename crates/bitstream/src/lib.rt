@@ -10,6 +10,7 @@ mod within;
 mod words;
 
 pub use bits::Bits;
+pub use words::low_bits;
 
 #[cfg(test)]
 mod tests;

@@ -1,8 +1,8 @@
 // Bytes by words of 64 bits, least significant first.
-ghost use Rattle.std.specs.Prelude.{◌≡◌, ◌*◌, ◌^◌, ◌<◌, ◌≤◌, IsTrue, MatchOption, length};
+ghost use Rattle.std.specs.Prelude.{◌≡◌, ◌*◌, ◌^◌, ◌<◌, ◌≤◌, IsTrue, MatchOption, length, ◌%◌};
 ghost use Rattle.bitstream.specs.Bits.{bits_of_bytes, ones_of, HasNoOne, IsFirstOne};
-ghost use Rattle.implicit_tiling.specs.Bits.{bit_of_bytes};
-ghost use Rattle.bitstream.specs.Words.{IsWordOf};
+ghost use Rattle.implicit_tiling.specs.Bits.{bit_of_bytes, digit_of_bytes};
+ghost use Rattle.bitstream.specs.Words.{IsWordOf, HasDigits};
 
 pub(crate) fn word_of(bytes: [u8; 8]) -> u64
     ensures { IsWordOf bytes result }
@@ -14,13 +14,33 @@ pub(crate) fn word_of(bytes: [u8; 8]) -> u64
 pub(crate) fn first_word(bytes: &[u8]) -> u64
     ensures { IsWordOf bytes.now result }
 {
-    let (words, rest) = bytes.as_chunks::<8>();
-    if words.len() > 0 {
-        return word_of(words[0]);
+    if let Some(word) = bytes.first_chunk::<8>() {
+        return word_of(*word);
     }
     let mut word = [0; 8];
-    word[..rest.len()].copy_from_slice(rest);
+    word[..bytes.len()].copy_from_slice(bytes);
     word_of(word)
+}
+
+/// The first `count` bits of a word, least significant first; all of them where it has no more.
+pub fn low_bits(word: u64, count: u64) -> u64
+    ensures { result ≡ word % 2 ^ count }
+{
+    if count >= 64 {
+        return word;
+    }
+    word & ((1 << count) - 1)
+}
+
+// The 64 bits from a place on, which stand in nine bytes.
+pub(crate) fn word_at(bytes: &[u8], from: u64) -> u64
+    ensures { HasDigits (digit_of_bytes bytes.now) from result }
+{
+    let start = (from / 8) as usize;
+    let low = first_word(&bytes[start.min(bytes.len())..]);
+    let high = first_word(&bytes[(start + 8).min(bytes.len())..]);
+    let both = u128::from(high) << 64 | u128::from(low);
+    (both >> (from % 8) & u128::from(u64::MAX)) as u64
 }
 
 // How many of the first n bits are 1.
