@@ -1,6 +1,7 @@
 -- The parts of a word, as numbers.
-use Rattle.std.proofs.Common.{◌≡◌, ℕ, ◌+◌, ◌*◌, ◌/◌, ◌%◌, ◌^◌, ◌<◌, sym, ap, ◌∙◌, arith, lit≤, bit_or}
-use Rattle.std.proofs.lemmas.Nat.{or_shifted, shl_whole, shr_high, mod_low, shr-shr, shr_split}
+use Rattle.std.proofs.Common.{◌≡◌, ℕ, ◌+◌, ◌-◌, ◌*◌, ◌/◌, ◌%◌, ◌^◌, ◌<◌, sym, ap, ◌∙◌, arith, lit≤, lit<, bit_and, bit_or}
+use Rattle.std.proofs.lemmas.Nat.{or_shifted, shl_whole, shr_high, mod_low, shr-shr, shr_split, and-not, and_comm}
+use Rattle.std.proofs.lemmas.Nat.Bits.{and_high}
 
 -- parts that share no place are one number
 pub word_of_parts : (l m i : ℕ) → l < 2 ^ 5 → m < 2 ^ 8 → i < 2 ^ 51
@@ -31,3 +32,10 @@ index_of_parts l m i hi =
 pub parts_of_word : (w : ℕ) → w / 2 ^ 59 * 2 ^ 59 + w / 2 ^ 51 % 2 ^ 8 * 2 ^ 51 + w % 2 ^ 51 ≡ w
 parts_of_word w =
     omega (arith, shr-shr w 51 8, shr_split (w / 2 ^ 51) 8, shr_split w 51)
+
+-- a word with its mask cleared, and nothing else
+pub without_its_mask : (w : ℕ) → w < 2 ^ 64 → bit_and w (2 ^ 64 - 1 - (2 ^ (8 + 51) - 2 ^ 51)) ≡ w / 2 ^ 59 * 2 ^ 59 + w % 2 ^ 51
+without_its_mask w h =
+    let masks = 2 ^ (8 + 51) - 2 ^ 51 in
+    let rest = and-not 64 masks w (lit< tt) h in
+    omega (arith, rest, and_comm w (2 ^ 64 - 1 - masks), and_comm masks w, and_high w 8 51, parts_of_word w)

@@ -11,7 +11,7 @@ use Rattle.implicit_tiling.specs.Code.{word, word_level, word_mask, word_index, 
 use Rattle.tiling_laws.proofs.Index.{further_places, index_below}
 use Rattle.tiling_laws.proofs.TileAt.{same_tile, tile_at_level, tile_at_is_tile, index_of_tile_at, tile_at_index}
 use Rattle.tiling_laws.proofs.Order.{below_by_level, below_by_index, below_says}
-use Rattle.availability.specs.Words.{HasWord, HasParts, IsOfItsParts, AreOrdered}
+use Rattle.availability.specs.Words.{word_key, HasWord, HasParts, IsOfItsParts, AreOrdered}
 use Rattle.availability.proofs.Levels.{levels_below_32, indices_fit}
 use Rattle.availability.proofs.Parts.{level_of_parts, mask_of_parts, index_of_parts, parts_of_word}
 
@@ -153,6 +153,13 @@ parts_have_their_word scheme w is = record {
       ∙ ap (λ i. word_level w * 2 ^ 59 + word_mask w * 2 ^ 51 + i) (index_of_tile_at scheme (word_level w) (word_index w) is.index_fits)
       ∙ parts_of_word w;
 }
+
+-- a word's level and index alone are the word of its tile with no contents
+pub key_is_that_of_the_tile : (scheme : Scheme) (w : ℕ) → IsWord scheme w → word_key w ≡ word scheme (word_tile scheme w) 0
+key_is_that_of_the_tile scheme w is =
+    let level = word_tile_level scheme w in
+    let index_is = index_of_tile_at scheme (word_level w) (word_index w) is.index_fits in
+    omega (arith, level, index_is)
 
 -- the order of words
 level_first : (scheme : Scheme) (t u : Tile) (m n : ℕ) → t.level < most_levels scheme → m < 2 ^ 8 → t.level < u.level → word scheme t m < word scheme u n

@@ -1,9 +1,13 @@
 -- Laws of the words of tiles: a word and its parts, and the order of words (this project's own).
-use Rattle.std.specs.Prelude.{ℕ, ◌≡◌, ◌^◌, ◌<◌, ◌↔◌, true}
+use Rattle.std.specs.Prelude.{ℕ, ◌≡◌, ◌+◌, ◌*◌, ◌^◌, ◌<◌, ◌↔◌, true}
 use Rattle.implicit_tiling.specs.declared.Scheme.{Scheme}
 use Rattle.implicit_tiling.specs.Limits.{most_levels}
 use Rattle.implicit_tiling.specs.Tile.{Tile, IsTile, is_key_below}
-use Rattle.implicit_tiling.specs.Code.{word, word_tile, word_mask, IsWord}
+use Rattle.implicit_tiling.specs.Code.{level_place, word, word_level, word_index, word_tile, word_mask, IsWord}
+
+-- the level and the index of a word, with no mask between them
+abbrev pub word_key : ℕ → ℕ
+word_key w = word_level w * 2 ^ level_place + word_index w
 
 -- a tile of a level within the limits
 pub record HasWord (scheme : Scheme) (t : Tile) : Type 0 where

@@ -9,7 +9,10 @@ mod word;
 
 pub use nodes::{nodes_above, nodes_at};
 pub use subtree::{RuleFault, Subtree};
-pub use word::{WordTile, index_of, tile_at, tile_of, word_of};
+pub use word::{
+    WordTile, index_in, index_of, is_word, key_of, level_of, mask_of, tile_at, tile_of, word_of,
+    word_tile,
+};
 
 #[cfg(test)]
 mod tests;

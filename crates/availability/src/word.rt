@@ -1,8 +1,10 @@
 // The words of tiles.
 ghost use Rattle.std.specs.Prelude.{◌≡◌, ◌^◌, ◌<◌, ◌↔◌, IfSome, IsSome};
+ghost use Rattle.std.specs.Bool.{Decides};
 ghost use Rattle.implicit_tiling.specs.Limits.{most_levels};
 ghost use Rattle.implicit_tiling.specs.Tile.{IsTile, branching, index, tile_at as tile_at_of};
-ghost use Rattle.implicit_tiling.specs.Code.{word as word_for, word_tile, word_mask, IsWord};
+ghost use Rattle.implicit_tiling.specs.Code.{word as word_for, word_tile as word_tile_of, word_mask, word_level, word_index, IsWord};
+ghost use Rattle.availability.specs.Words.{word_key};
 
 use crate::nodes::nodes_at;
 use morton::{coords2, coords3, index2, index3};
@@ -37,7 +39,7 @@ pub fn word_of(scheme: Scheme, tile: &Tile, mask: u8) -> Word
 #[inline]
 pub fn tile_of(scheme: Scheme, word: Word) -> Option<WordTile>
     ensures accepted { IsSome result ↔ IsWord scheme word }
-    ensures tile { IfSome result (λ t. t.tile ≡ word_tile scheme word) }
+    ensures tile { IfSome result (λ t. t.tile ≡ word_tile_of scheme word) }
     ensures mask { IfSome result (λ t. t.mask ≡ word_mask word) }
     ensures is_tile { IfSome result (λ t. IsTile scheme t.tile) }
     ensures within { IfSome result (λ t. t.tile.level < most_levels scheme) }
@@ -52,6 +54,59 @@ pub fn tile_of(scheme: Scheme, word: Word) -> Option<WordTile>
         tile: tile_at(scheme, level, index),
         mask,
     })
+}
+
+/// Whether a number is a word: its level is within the limit, and its index is one of its level's.
+#[inline]
+pub fn is_word(scheme: Scheme, word: Word) -> bool
+    ensures { Decides result (IsWord scheme word) }
+{
+    let level = level_of(word);
+    level < scheme.most_levels() && index_in(word) < nodes_at(scheme, level)
+}
+
+/// The word of the same tile without contents. These are ordered as the keys of the tiles.
+#[inline]
+pub fn key_of(word: Word) -> Word
+    ensures parts { result ≡ word_key word }
+    ensures key { (scheme : Scheme) → IsWord scheme word → result ≡ word_for scheme (word_tile_of scheme word) 0 }
+{
+    word & !(MASK_BITS << MASK_PLACE)
+}
+
+/// The mask of a word: bit c for content c.
+#[inline]
+pub fn mask_of(word: Word) -> u8
+    ensures { result ≡ word_mask word }
+{
+    (word >> MASK_PLACE & MASK_BITS) as u8
+}
+
+/// The level of a word's tile: 0 to 31 for any number.
+#[inline]
+pub fn level_of(word: Word) -> u32
+    ensures { result ≡ word_level word }
+{
+    (word >> LEVEL_PLACE) as u32
+}
+
+/// The Morton index of a word's tile: below 2^51 for any number.
+#[inline]
+pub fn index_in(word: Word) -> u64
+    ensures { result ≡ word_index word }
+{
+    word & ((1 << MASK_PLACE) - 1)
+}
+
+/// The tile of a word, where it is known to be one.
+#[inline]
+pub fn word_tile(scheme: Scheme, word: Word) -> Tile
+    requires { IsWord scheme word }
+    ensures tile { result ≡ word_tile_of scheme word }
+    ensures is_tile { IsTile scheme result }
+    ensures within { result.level < most_levels scheme }
+{
+    tile_at(scheme, level_of(word), index_in(word))
 }
 
 /// The Morton index of a tile within its level (OGC 22-025r4, implicit tiling: Morton index).

@@ -1,8 +1,8 @@
 -- Bytes in which a bit is put.
-use Rattle.std.proofs.Common.{◌≡◌, ◌≢◌, ◌∙◌, ℕ, ◌*◌, ◌/◌, ◌%◌, ◌^◌, ◌<◌, ◌||◌, Bool, true, false, eqb, List, get_or, set, length, replicate, bit_or, get_or-set_other, get_or-set_same, refl, sym, ap, inl, inr, arith, w8}
+use Rattle.std.proofs.Common.{◌≡◌, ◌≢◌, ◌∙◌, ℕ, ◌*◌, ◌/◌, ◌%◌, ◌^◌, ◌<◌, ◌||◌, Bool, true, false, eqb, List, [], ◌∷◌, get_or, set, length, replicate, bit_or, get_or-set_other, get_or-set_same, refl, sym, ap, inl, inr, arith, w8}
 use Rattle.std.specs.Int.{bit_at as digit_at}
 use Rattle.std.proofs.lemmas.Bool.{cases_eq, eq-eqb, ne_eqb}
-use Rattle.std.proofs.lemmas.List.{get_or-replicate}
+use Rattle.std.proofs.lemmas.List.{get_or-replicate, length-replicate}
 use Rattle.std.proofs.lemmas.List.FromFn.{fill_by_all}
 use Rattle.std.proofs.lemmas.Nat.Bits.{bit_at_set_same, bit_at_set_other, bit_at-zero}
 use Rattle.std.specs.List.{list_any}
@@ -65,3 +65,9 @@ pub bits_of_bytes-places : (bytes : List ℕ) (count : ℕ) (places : List ℕ) 
 bits_of_bytes-places bytes count places have =
     fill_by_all (λ i. list_any (λ p. eqb p i) places) (bits_of_bytes bytes count) count false (length-bits_of_bytes bytes count)
     (λ i h. bit_at-bits_of_bytes bytes count i h ∙ have.bits i h)
+
+-- bits that are all 0 are those of no places
+pub zeros_are_of_no_places : (count : ℕ) (places : List ℕ) → length places ≡ 0 → replicate count false ≡ bits_of_places count places
+zeros_are_of_no_places count [] none =
+    fill_by_all (λ i. false) (replicate count false) count false (length-replicate count false) (λ i h. get_or-replicate count i false false h)
+zeros_are_of_no_places count (p ∷ places) none = absurd (omega (arith, none))

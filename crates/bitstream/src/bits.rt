@@ -63,11 +63,14 @@ impl Bits {
     }
 
     /// `count` bits, of which those at the places are 1; a place may stand there twice. It takes as few bytes as the
-    /// bits fill.
+    /// bits fill, and none where there are no places.
     pub fn of_places(alloc: Global, count: u64, places: &[u64]) -> Result<Bits, AllocError>
         requires { All (λ p. p < count) places.now }
         ensures { IfOk result (λ bits. bits ≡ bits_of_places count places.now) }
     {
+        if places.is_empty() {
+            return Ok(Bits::constant(false, count));
+        }
         let bytes = bytes_of_places(alloc, count, places)?;
         Ok(Bits {
             kind: Kind::Bytes { bytes, count },

@@ -17,11 +17,12 @@ use Rattle.walk_laws.proofs.Lists.{filter_same, filter_none}
 use Rattle.walk_laws.proofs.Plain.{same_test}
 use Rattle.walk_laws.proofs.Runs.{run_fits}
 use Rattle.availability.proofs.Levels.{indices_fit, levels_below_32}
-use Rattle.availability.proofs.Tiles.{index_is_short, word_tile_is_tile, word_tile_fits, word_tile_level}
+use Rattle.availability.proofs.Tiles.{index_is_short, key_is_that_of_the_tile, word_tile_is_tile, word_tile_fits, word_tile_level}
+use Rattle.availability.specs.Words.{word_key}
 use Rattle.tile_occupancy.specs.Occupied.{IsWordBelow, AreWords, is_same}
 use Rattle.build_laws.specs.Made.{tile_in}
 use Rattle.build_laws.proofs.Under.{same_says, same_from}
-use Rattle.tile_builder.specs.Runs.{key_of, first_key, is_key_in, is_below, words_below}
+use Rattle.tile_builder.specs.Runs.{first_key, is_key_in, is_below, words_below}
 
 -- the first key, by its parts
 first_fits : (scheme : Scheme) (r : Tile) (down : ℕ) → index scheme r * branching scheme ^ down < branching scheme ^ (r.level + down)
@@ -71,43 +72,45 @@ below_from layout r down w is =
 
 -- its key is in the run, and no other key
 key_says : (scheme : Scheme) (r : Tile) (down w : ℕ) → IsTile scheme r → r.level + down < most_levels scheme → IsWord scheme w
-    → is_key_in scheme (first_key scheme r down) (branching scheme ^ down) w ≡ true → IsTileBelow r down (word_tile scheme w)
+    → is_key_in (first_key scheme r down) (branching scheme ^ down) w ≡ true → IsTileBelow r down (word_tile scheme w)
 key_says scheme r down w tile few is h =
     let t = word_tile scheme w in
     let first = first_key scheme r down in
     let n = branching scheme ^ down in
-    let parts = and_parts (nat_le first (key_of scheme w)) (nat_lt (key_of scheme w) (first + n)) h in
-    let low = leb-true first (key_of scheme w) parts.0 in
-    let high = ltb-true (key_of scheme w) (first + n) parts.1 in
+    let parts = and_parts (nat_le first (word_key w)) (nat_lt (word_key w) (first + n)) h in
+    let low = leb-true first (word_key w) parts.0 in
+    let high = ltb-true (word_key w) (first + n) parts.1 in
+    let key = key_is_that_of_the_tile scheme w is in
     let at = first_key_is scheme r down in
     let run = parts_in_run t.level (r.level + down) (index scheme t) (index scheme r * n) n (index_is_short scheme t (word_tile_fits scheme w is.level_fits))
-    (omega (arith, last_fits scheme r down, indices_fit scheme (r.level + down) few)) (omega (arith, low, at)) (omega (arith, high, at)) in
+    (omega (arith, last_fits scheme r down, indices_fit scheme (r.level + down) few)) (omega (arith, low, at, key)) (omega (arith, high, at, key)) in
     record {
       level = run.0;
       above = (descendants scheme down t r (word_tile_is_tile scheme w) tile run.0).1 (run.1, omega (arith, run.2));
     }
 
-key_from : (scheme : Scheme) (r : Tile) (down w : ℕ) → IsTile scheme r → IsTileBelow r down (word_tile scheme w)
-    → is_key_in scheme (first_key scheme r down) (branching scheme ^ down) w ≡ true
-key_from scheme r down w tile is =
+key_from : (scheme : Scheme) (r : Tile) (down w : ℕ) → IsTile scheme r → IsWord scheme w → IsTileBelow r down (word_tile scheme w)
+    → is_key_in (first_key scheme r down) (branching scheme ^ down) w ≡ true
+key_from scheme r down w tile is below =
     let t = word_tile scheme w in
     let first = first_key scheme r down in
     let n = branching scheme ^ down in
     let at = first_key_is scheme r down in
-    let level = is.level in
-    let run = (descendants scheme down t r (word_tile_is_tile scheme w) tile is.level).0 is.above in
-    and_from (nat_le first (key_of scheme w)) (nat_lt (key_of scheme w) (first + n))
-    (le-leb first (key_of scheme w) (omega (arith, at, level, run.0))) (lt-ltb (key_of scheme w) (first + n) (omega (arith, at, level, run.1)))
+    let level = below.level in
+    let key = key_is_that_of_the_tile scheme w is in
+    let run = (descendants scheme down t r (word_tile_is_tile scheme w) tile below.level).0 below.above in
+    and_from (nat_le first (word_key w)) (nat_lt (word_key w) (first + n))
+    (le-leb first (word_key w) (omega (arith, at, key, level, run.0))) (lt-ltb (word_key w) (first + n) (omega (arith, at, key, level, run.1)))
 
 pub run_is_below : (layout : Layout) (r : Tile) (down : ℕ) (ws : List ℕ) → IsTile layout.scheme r → r.level + down < most_levels layout.scheme → All (IsWord layout.scheme) ws
-    → filter (is_key_in layout.scheme (first_key layout.scheme r down) (branching layout.scheme ^ down)) ws ≡ words_below layout ws r down
+    → filter (is_key_in (first_key layout.scheme r down) (branching layout.scheme ^ down)) ws ≡ words_below layout ws r down
 run_is_below layout r down ws tile few are =
     let scheme = layout.scheme in
-    let test = is_key_in scheme (first_key scheme r down) (branching scheme ^ down) in
+    let test = is_key_in (first_key scheme r down) (branching scheme ^ down) in
     filter_same test (is_below layout r down) ws
     (All-weaker (IsWord scheme) (λ w. test w ≡ is_below layout r down w)
     (λ w is. same_test (test w) (is_below layout r down w)
-    (λ h. below_from layout r down w (key_says scheme r down w tile few is h)) (λ h. key_from scheme r down w tile (below_says layout r down w h))) ws are)
+    (λ h. below_from layout r down w (key_says scheme r down w tile few is h)) (λ h. key_from scheme r down w tile is (below_says layout r down w h))) ws are)
 
 -- there is no tile from the levels in all on
 not_true : {P : Type 0} (b : Bool) → (b ≡ true → P) → (P → ⊥) → b ≡ false
@@ -127,10 +130,10 @@ few_levels Oct n levels low few = omega (arith, low, few)
 
 pub below_is_run : (layout : Layout) (scheme : Scheme) (r : Tile) (down first n : ℕ) (ws found : List ℕ) → scheme ≡ layout.scheme → IsTile layout.scheme r
     → r.level + down < most_levels scheme → AreWords layout.scheme layout.levels ws → first ≡ first_key scheme r down → n ≡ branching scheme ^ down
-    → found ≡ filter (is_key_in scheme first n) ws → found ≡ words_below layout ws r down
+    → found ≡ filter (is_key_in first n) ws → found ≡ words_below layout ws r down
 below_is_run layout scheme r down first n ws found same tile few are at nodes is =
-    is ∙ ap (λ k. filter (is_key_in scheme k n) ws) at ∙ ap (λ m. filter (is_key_in scheme (first_key scheme r down) m) ws) nodes
-    ∙ ap (λ s. filter (is_key_in s (first_key s r down) (branching s ^ down)) ws) same
+    is ∙ ap (λ k. filter (is_key_in k n) ws) at ∙ ap (λ m. filter (is_key_in (first_key scheme r down) m) ws) nodes
+    ∙ ap (λ s. filter (is_key_in (first_key s r down) (branching s ^ down)) ws) same
     ∙ run_is_below layout r down ws tile (subst (λ s. r.level + down < most_levels s) same few)
     (All-weaker (IsWordBelow layout.scheme layout.levels) (IsWord layout.scheme) (λ w h. h.is_word) ws are)
 

@@ -4,20 +4,17 @@ use Rattle.std.specs.List.{flat_map, range_with_len}
 use Rattle.implicit_tiling.specs.declared.Scheme.{Scheme}
 use Rattle.implicit_tiling.specs.Tile.{Tile, branching, ancestor, index, tile_at}
 use Rattle.implicit_tiling.specs.Scene.{Layout}
-use Rattle.implicit_tiling.specs.Code.{word, word_tile}
+use Rattle.implicit_tiling.specs.Code.{word}
+use Rattle.availability.specs.Words.{word_key}
 use Rattle.tile_occupancy.specs.Occupied.{is_same}
 use Rattle.build_laws.specs.Made.{tile_in}
-
--- the word of the same tile without contents
-abbrev pub key_of : Scheme → ℕ → ℕ
-key_of scheme w = word scheme (word_tile scheme w) 0
 
 -- the key of the first tile so many levels below another, and the keys among so many numbers
 abbrev pub first_key : Scheme → Tile → ℕ → ℕ
 first_key scheme r down = word scheme (tile_at scheme (r.level + down) (index scheme r * branching scheme ^ down)) 0
 
-abbrev pub is_key_in : Scheme → ℕ → ℕ → ℕ → Bool
-is_key_in scheme first count w = nat_le first (key_of scheme w) && nat_lt (key_of scheme w) (first + count)
+abbrev pub is_key_in : ℕ → ℕ → ℕ → Bool
+is_key_in first count w = nat_le first (word_key w) && nat_lt (word_key w) (first + count)
 
 -- the words of the tiles so many levels below a root
 abbrev pub is_below : Layout → Tile → ℕ → ℕ → Bool

@@ -7,11 +7,10 @@ ghost use Rattle.build_laws.specs.Made.{tile_in, node_bits as node_bits_of, chil
 ghost use Rattle.implicit_tiling.specs.Availability.{place};
 ghost use Rattle.tile_builder.specs.Bits.{content_bits as content_bits_of};
 
-use availability::{index_of, nodes_above, nodes_at, tile_of};
+use availability::{index_of, nodes_above, nodes_at, tile_of, word_tile};
 use bitstream::Bits;
 use std::alloc::{AllocError, Global};
 use tile_coords::{Scheme, Word};
-use tile_occupancy::word_tile;
 use tileset_json::Layout;
 
 // A bit for each node of a subtree: those of the words are 1 (OGC 22-025r4, tile availability).

@@ -1,15 +1,15 @@
 // The words of the tiles below a root. Words are in key order, so those of one level stand one after another.
 ghost use Rattle.std.specs.Prelude.{◌≡◌, ◌+◌, ◌^◌, ◌<◌, ◌≤◌, length, take, drop, filter};
 ghost use Rattle.std.specs.List.{All};
-ghost use Rattle.implicit_tiling.specs.Code.{IsWord};
+ghost use Rattle.std.specs.List.Sorted.{IsNonDecreasingBy};
 ghost use Rattle.implicit_tiling.specs.Limits.{most_levels};
 ghost use Rattle.implicit_tiling.specs.Tile.{IsTile};
-ghost use Rattle.tile_occupancy.specs.Occupied.{KeysRise, IsOccupancy};
-ghost use Rattle.tile_builder.specs.Runs.{key_of as key_for, first_key as first_key_of, is_key_in, words_below as words_below_of};
+ghost use Rattle.availability.specs.Words.{word_key};
+ghost use Rattle.tile_occupancy.specs.Occupied.{IsOccupancy};
+ghost use Rattle.tile_builder.specs.Runs.{first_key as first_key_of, is_key_in, words_below as words_below_of};
 
-use availability::{index_of, nodes_at, tile_at, word_of};
+use availability::{index_of, key_of, nodes_at, tile_at, word_of};
 use tile_coords::{Scheme, Tile, Word};
-use tile_occupancy::key_of;
 use tileset_json::Layout;
 
 // The words of the tiles so many levels below a root (OGC 22-025r4, Morton index: their indices are a run of N^levels).
@@ -28,7 +28,7 @@ pub(crate) fn words_below<'w>(
         return &words[..0];
     }
     let first = first_key(layout.scheme, root, levels);
-    words_from(layout.scheme, words, first, nodes_at(layout.scheme, levels))
+    words_from(words, first, nodes_at(layout.scheme, levels))
 }
 
 // The key of the first tile so many levels below another.
@@ -43,35 +43,22 @@ fn first_key(scheme: Scheme, root: &Tile, levels: u32) -> u64
 }
 
 // The words whose keys are among `count` numbers from `first` on.
-fn words_from<'w>(scheme: Scheme, words: &'w [Word], first: u64, count: u64) -> &'w [Word]
-    requires words { All (IsWord scheme) words.now }
-    requires rise { KeysRise scheme words.now }
+fn words_from<'w>(words: &'w [Word], first: u64, count: u64) -> &'w [Word]
+    requires sorted { IsNonDecreasingBy word_key words.now }
     requires fits { first + count < 2 ^ 64 }
-    ensures { result.now ≡ filter (is_key_in scheme first count) words.now }
+    ensures { result.now ≡ filter (is_key_in first count) words.now }
 {
-    let start = count_below(scheme, words, first);
-    let end = count_below(scheme, words, first + count);
+    let start = count_below(words, first);
+    let end = count_below(words, first + count);
     &words[start..end]
 }
 
-// How many of the words have keys below a number. They stand before all others: the half in which the first other one is
-// is halved again.
-fn count_below(scheme: Scheme, words: &[Word], key: u64) -> usize
-    requires words { All (IsWord scheme) words.now }
-    requires rise { KeysRise scheme words.now }
+// How many of the words have keys below a number. They stand before all others.
+fn count_below(words: &[Word], key: u64) -> usize
+    requires { IsNonDecreasingBy word_key words.now }
     ensures within { result ≤ length words.now }
-    ensures below { All (λ w. key_for scheme w < key) (take result words.now) }
-    ensures others { All (λ w. key ≤ key_for scheme w) (drop result words.now) }
+    ensures below { All (λ w. word_key w < key) (take result words.now) }
+    ensures others { All (λ w. key ≤ word_key w) (drop result words.now) }
 {
-    let mut low = 0;
-    let mut high = words.len();
-    while low < high {
-        let middle = low + (high - low) / 2;
-        if key_of(scheme, words[middle]) < key {
-            low = middle + 1;
-        } else {
-            high = middle;
-        }
-    }
-    low
+    words.partition_point(|word| key_of(*word) < key)
 }

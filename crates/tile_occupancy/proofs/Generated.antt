@@ -18,7 +18,7 @@ use Rattle.implicit_tiling.specs.Tile.{Tile, IsTile, ancestor, is_key_below}
 use Rattle.implicit_tiling.specs.Code.{word, word_tile, IsWord}
 use Rattle.tiling_laws.proofs.Order.{below_by_level}
 use Rattle.tiling_laws.proofs.Ancestors.{ancestor_is_tile, ancestor_of_ancestor}
-use Rattle.availability.specs.Words.{HasWord}
+use Rattle.availability.specs.Words.{word_key, HasWord}
 use Rattle.availability.proofs.Tiles.{tile_of_word, word_is_word, level_of_word, words_are_ordered}
 use Rattle.tile_occupancy.specs.Occupied.{IsWordBelow, IsOccupancy, HasParent, tiles_of}
 use Rattle.tile_occupancy.specs.Generated.{point, IsGenerated, contents_mask, generated_word, HasLines, AreGenerated}
@@ -124,7 +124,7 @@ at_place scheme levels contents points number ws made i d h =
 
 -- the keys rise
 step_rises : (scheme : Scheme) (levels contents points number : ℕ) (ws : List ℕ) → Made scheme levels contents points number ws → (i k : ℕ) → i < length ws → k < length ws
-    → slice_index ws i < slice_index ws k → word scheme (word_tile scheme (slice_index ws i)) 0 < word scheme (word_tile scheme (slice_index ws k)) 0
+    → slice_index ws i < slice_index ws k → word_key (slice_index ws i) < word_key (slice_index ws k)
 step_rises scheme levels contents points number ws made i k hi hk h =
     let v = slice_index ws i in
     let w = slice_index ws k in
@@ -139,9 +139,9 @@ all_words : (scheme : Scheme) (levels contents points number : ℕ) (ws : List �
 all_words scheme levels contents points number ws made =
     All-from_get_or (IsWordBelow scheme levels) ws 0 (λ i h. (at_place scheme levels contents points number ws made i 0 h).line.below)
 
-keys_rise : (scheme : Scheme) (levels contents points number : ℕ) (ws : List ℕ) → Made scheme levels contents points number ws → RiseBefore scheme ws (length ws)
+keys_rise : (scheme : Scheme) (levels contents points number : ℕ) (ws : List ℕ) → Made scheme levels contents points number ws → RiseBefore ws (length ws)
 keys_rise scheme levels contents points number ws made =
-    rise_upto scheme ws (length ws) (omega arith)
+    rise_upto ws (length ws) (omega arith)
     (λ k some h.
     let back : k - 1 + 1 ≡ k = omega (arith, some) in
     let next : slice_index ws (k - 1) < slice_index ws k = subst (λ n. slice_index ws (k - 1) < slice_index ws n) back (made.increase (k - 1) (omega (arith, back, h))) in

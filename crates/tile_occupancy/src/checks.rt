@@ -5,30 +5,24 @@ ghost use Rattle.std.specs.List.{All};
 ghost use Rattle.implicit_tiling.specs.Code.{IsWord};
 ghost use Rattle.tile_occupancy.specs.Occupied.{AreWords, IsWordBelow, KeysRise, HaveParents};
 
-use crate::search::{has_tile, key_of, word_tile};
-use availability::tile_of;
+use crate::search::has_tile;
+use availability::{is_word, key_of, level_of, word_tile};
 use tile_coords::{Scheme, Word};
 
 // Whether each word is that of a tile of a level below `levels`.
 pub(crate) fn are_words(scheme: Scheme, levels: u32, words: &[Word]) -> bool
     ensures { Decides result (AreWords scheme levels words.now) }
 {
-    for &word in words {
-        if !is_word_below(scheme, levels, word) {
-            return false;
-        }
-    }
-    true
+    words
+        .iter()
+        .all(|word| is_word_below(scheme, levels, *word))
 }
 
 // The same of one word.
 fn is_word_below(scheme: Scheme, levels: u32, word: Word) -> bool
     ensures { Decides result (IsWordBelow scheme levels word) }
 {
-    match tile_of(scheme, word) {
-        Some(found) => found.tile.level < levels,
-        None => false,
-    }
+    is_word(scheme, word) && level_of(word) < levels
 }
 
 // Whether the keys of the words' tiles strictly rise.
@@ -36,12 +30,7 @@ pub(crate) fn keys_rise(scheme: Scheme, words: &[Word]) -> bool
     requires { All (IsWord scheme) words.now }
     ensures { Decides result (KeysRise scheme words.now) }
 {
-    for next in 1..words.len() {
-        if key_of(scheme, words[next - 1]) >= key_of(scheme, words[next]) {
-            return false;
-        }
-    }
-    true
+    words.is_sorted_by(|word, next| key_of(*word) < key_of(*next))
 }
 
 // Whether each tile but the root has its parent among the tiles.

@@ -9,7 +9,6 @@ mod search;
 
 pub use generator::generate;
 pub use occupancy::{Occupancy, OccupancyFault};
-pub use search::{key_of, word_tile};
 
 #[cfg(test)]
 mod tests;
