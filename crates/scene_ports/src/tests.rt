@@ -161,7 +161,7 @@ fn the_folder_and_the_streams(rt: HostRuntime) -> Result<(), Fail> {
     let mut folder = Folder::here(alloc, rt.clone()?);
     fs::create_dir(&rt, "deep")?;
     let long = Vec::from_elem(alloc, 9, 200_000)?;
-    let puts: [(&str, &[u8], Put); 8] = [
+    let puts: [(&str, &[u8], Put); 12] = [
         ("a b", b"1", Put::Kept),
         ("a%20b", b"234", Put::Kept),
         ("deep/c", &long, Put::Kept),
@@ -170,26 +170,33 @@ fn the_folder_and_the_streams(rt: HostRuntime) -> Result<(), Fail> {
         ("deep/../d", b"5", Put::Failed),
         ("%2Fd", b"5", Put::Failed),
         ("", b"5", Put::Failed),
+        ("a..b", b"67", Put::Kept),
+        ("%FF", b"5", Put::Failed),
+        ("%2e%2e/x", b"5", Put::Failed),
+        ("a%00b", b"5", Put::Failed),
     ];
     for (name, bytes, wanted) in puts {
         assert!(rt; folder.put(name, bytes) == wanted);
     }
     let mut out = Vec::new(alloc);
-    let fetches: [(&str, usize, Fetch, usize); 10] = [
-        ("a%20b", LIMIT, Fetch::Whole, 3),
-        ("a b", 2, Fetch::TooLong, 0),
-        ("deep/c", 200_000, Fetch::Whole, 200_000),
-        ("deep/c", 199_999, Fetch::TooLong, 0),
-        ("d", LIMIT, Fetch::Missing, 0),
-        ("none/c", LIMIT, Fetch::Missing, 0),
-        ("deep", LIMIT, Fetch::Failed, 0),
-        ("a b/c", LIMIT, Fetch::Failed, 0),
-        ("deep/%2e%2e/a b", LIMIT, Fetch::Missing, 0),
-        ("a%00", LIMIT, Fetch::Missing, 0),
+    let fetches: [(&str, usize, Fetch, &[u8]); 13] = [
+        ("a%20b", LIMIT, Fetch::Whole, b"234"),
+        ("a b", 2, Fetch::TooLong, b""),
+        ("deep/c", 200_000, Fetch::Whole, &long),
+        ("deep/c", 199_999, Fetch::TooLong, b""),
+        ("d", LIMIT, Fetch::Missing, b""),
+        ("none/c", LIMIT, Fetch::Missing, b""),
+        ("deep", LIMIT, Fetch::Failed, b""),
+        ("a b/c", LIMIT, Fetch::Failed, b""),
+        ("deep/%2e%2e/a b", LIMIT, Fetch::Missing, b""),
+        ("a..b", LIMIT, Fetch::Whole, b"67"),
+        ("%FF", LIMIT, Fetch::Missing, b""),
+        ("%2e%2e/x", LIMIT, Fetch::Missing, b""),
+        ("a%00b", LIMIT, Fetch::Missing, b""),
     ];
-    for (name, limit, wanted, length) in fetches {
+    for (name, limit, wanted, bytes) in fetches {
         assert!(rt; folder.fetch(name, limit.min(LIMIT), &mut out) == wanted);
-        assert!(rt; out.len() == length);
+        assert!(rt; out.as_slice() == bytes);
     }
     let mut outlet = WriteOutlet::new(fs::create(&rt, "stream")?);
     assert!(rt; outlet.give(b"xyz") == Give::Took(3));
@@ -200,6 +207,7 @@ fn the_folder_and_the_streams(rt: HostRuntime) -> Result<(), Fail> {
     assert!(rt; inlet.take(&mut buffer) == Take::Got(1));
     assert!(rt; inlet.take(&mut buffer) == Take::End);
     fs::remove_file(&rt, "a b")?;
+    fs::remove_file(&rt, "a..b")?;
     fs::remove_file(&rt, "deep/c")?;
     fs::remove_file(&rt, "stream")?;
     fs::remove_dir(&rt, "deep")?;
