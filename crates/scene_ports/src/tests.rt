@@ -1,15 +1,13 @@
 // What no clause says: that calls succeed with ample memory, which calls `failing` names, and what the adapters of the
 // real world do.
 use crate::{
-    FULL, Fetch, FileKeeper, FileSource, Folder, Give, GiveFault, Inlet, MemoryFiles, MemoryKeeper,
-    MemoryLink, Outlet, Put, ReadInlet, SureFiles, SureKeeper, Take, WriteOutlet, give_all,
-    give_rest, give_when_full,
+    FULL, Fetch, FileKeeper, FileSource, Folder, Give, GiveFault, Inlet, MOST_FILE_BYTES,
+    MemoryFiles, MemoryKeeper, MemoryLink, Outlet, Put, ReadInlet, SureFiles, SureKeeper, Take,
+    WriteOutlet, give_all, give_rest, give_when_full,
 };
 use std::alloc::{AllocError, Global};
 use std::fs;
 use std::test::Fail;
-
-const LIMIT: usize = 16_777_216;
 
 fn pair(alloc: Global, name: &str, bytes: &[u8]) -> Result<(String, Vec<u8>), AllocError> {
     Ok((
@@ -180,22 +178,22 @@ fn the_folder_and_the_streams(rt: HostRuntime) -> Result<(), Fail> {
     }
     let mut out = Vec::new(alloc);
     let fetches: [(&str, usize, Fetch, &[u8]); 13] = [
-        ("a%20b", LIMIT, Fetch::Whole, b"234"),
+        ("a%20b", MOST_FILE_BYTES, Fetch::Whole, b"234"),
         ("a b", 2, Fetch::TooLong, b""),
         ("deep/c", 200_000, Fetch::Whole, &long),
         ("deep/c", 199_999, Fetch::TooLong, b""),
-        ("d", LIMIT, Fetch::Missing, b""),
-        ("none/c", LIMIT, Fetch::Missing, b""),
-        ("deep", LIMIT, Fetch::Failed, b""),
-        ("a b/c", LIMIT, Fetch::Failed, b""),
-        ("deep/%2e%2e/a b", LIMIT, Fetch::Missing, b""),
-        ("a..b", LIMIT, Fetch::Whole, b"67"),
-        ("%FF", LIMIT, Fetch::Missing, b""),
-        ("%2e%2e/x", LIMIT, Fetch::Missing, b""),
-        ("a%00b", LIMIT, Fetch::Missing, b""),
+        ("d", MOST_FILE_BYTES, Fetch::Missing, b""),
+        ("none/c", MOST_FILE_BYTES, Fetch::Missing, b""),
+        ("deep", MOST_FILE_BYTES, Fetch::Failed, b""),
+        ("a b/c", MOST_FILE_BYTES, Fetch::Failed, b""),
+        ("deep/%2e%2e/a b", MOST_FILE_BYTES, Fetch::Missing, b""),
+        ("a..b", MOST_FILE_BYTES, Fetch::Whole, b"67"),
+        ("%FF", MOST_FILE_BYTES, Fetch::Missing, b""),
+        ("%2e%2e/x", MOST_FILE_BYTES, Fetch::Missing, b""),
+        ("a%00b", MOST_FILE_BYTES, Fetch::Missing, b""),
     ];
     for (name, limit, wanted, bytes) in fetches {
-        assert!(rt; folder.fetch(name, limit.min(LIMIT), &mut out) == wanted);
+        assert!(rt; folder.fetch(name, limit.min(MOST_FILE_BYTES), &mut out) == wanted);
         assert!(rt; out.as_slice() == bytes);
     }
     let mut outlet = WriteOutlet::new(fs::create(&rt, "stream")?);
