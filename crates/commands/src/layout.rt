@@ -4,12 +4,9 @@ ghost use Rattle.scene_ports.specs.Counts.{Rose};
 ghost use Rattle.commands.specs.Replies.{layout_in, Agrees, IsEarly};
 
 use crate::status::Status;
-use scene_ports::{Fetch, FileSource};
+use scene_ports::{Fetch, FileSource, MOST_FILE_BYTES};
 use std::alloc::Global;
 use tileset_json::{Layout, LayoutFault};
-
-/// The most bytes of a file.
-const MOST_FILE_BYTES: usize = 16777216;
 
 /// The faults of `tileset.json` that a fetch shows.
 const MISSING: u64 = 1;

@@ -1,5 +1,5 @@
 // Giving texts to an outlet.
-ghost use Rattle.std.specs.Prelude.{◌≡◌, ◌≤◌, ◌<◌, [], OnOk, OnErr, string_bytes, string_len};
+ghost use Rattle.std.specs.Prelude.{◌≡◌, ◌≤◌, ◌<◌, [], IsOk, OnOk, OnErr, string_bytes, string_len};
 ghost use Rattle.std.specs.Io.KnownBytes.{Appends};
 ghost use Rattle.scene_ports.specs.Counts.{Rose};
 ghost use Rattle.scene_ports.specs.Output.{GivesFront, GivesAllBut};
@@ -66,10 +66,15 @@ pub fn give_rest<O: Outlet>(out: &mut O, piece: &mut String) -> Result<(), GiveF
     Ok(())
 }
 
-/// Gives the piece that is held back once it holds `FULL` bytes, and empties it then. Called after each line that a text
-/// gains, it makes few calls of the outlet. After an `Err` some front of the piece was given, and the piece is as it was.
+/// Gives the piece that is held back once it holds `FULL` bytes, and empties it then; a shorter piece waits, and the outlet
+/// isn't called. Called after each line that a text gains, it makes few calls of the outlet. After an `Err` some front of
+/// the piece was given, and the piece is as it was.
 pub fn give_when_full<O: Outlet>(out: &mut O, piece: &mut String) -> Result<(), GiveFault>
     ensures given { OnOk result (GivesAllBut (O.given out.old) (O.given out.new) (string_bytes piece.new) (string_bytes piece.old)) }
+    ensures waits { string_len piece.old < FULL → out.new ≡ out.old }
+    ensures ok { string_len piece.old < FULL → IsOk result }
+    ensures kept { string_len piece.old < FULL → string_bytes piece.new ≡ string_bytes piece.old }
+    ensures emptied { FULL ≤ string_len piece.old → OnOk result (string_bytes piece.new ≡ []) }
     ensures short { OnOk result (string_len piece.new < FULL) }
     ensures held { OnErr result (string_bytes piece.new ≡ string_bytes piece.old) }
     ensures front { GivesFront (O.given out.old) (O.given out.new) (string_bytes piece.old) }

@@ -1,15 +1,13 @@
 // What no clause says: that calls succeed with ample memory, which calls `failing` names, and what the adapters of the
 // real world do.
 use crate::{
-    FULL, Fetch, FileKeeper, FileSource, Folder, Give, GiveFault, Inlet, MemoryFiles, MemoryKeeper,
-    MemoryLink, Outlet, Put, ReadInlet, SureFiles, SureKeeper, Take, WriteOutlet, give_all,
-    give_rest, give_when_full,
+    FULL, Fetch, FileKeeper, FileSource, Folder, Give, GiveFault, Inlet, MOST_FILE_BYTES,
+    MemoryFiles, MemoryKeeper, MemoryLink, Outlet, Put, ReadInlet, SureFiles, SureKeeper, Take,
+    WriteOutlet, give_all, give_rest, give_when_full,
 };
 use std::alloc::{AllocError, Global};
 use std::fs;
 use std::test::Fail;
-
-const LIMIT: usize = 16_777_216;
 
 fn pair(alloc: Global, name: &str, bytes: &[u8]) -> Result<(String, Vec<u8>), AllocError> {
     Ok((
@@ -161,7 +159,7 @@ fn the_folder_and_the_streams(rt: HostRuntime) -> Result<(), Fail> {
     let mut folder = Folder::here(alloc, rt.clone()?);
     fs::create_dir(&rt, "deep")?;
     let long = Vec::from_elem(alloc, 9, 200_000)?;
-    let puts: [(&str, &[u8], Put); 8] = [
+    let puts: [(&str, &[u8], Put); 12] = [
         ("a b", b"1", Put::Kept),
         ("a%20b", b"234", Put::Kept),
         ("deep/c", &long, Put::Kept),
@@ -170,26 +168,33 @@ fn the_folder_and_the_streams(rt: HostRuntime) -> Result<(), Fail> {
         ("deep/../d", b"5", Put::Failed),
         ("%2Fd", b"5", Put::Failed),
         ("", b"5", Put::Failed),
+        ("a..b", b"67", Put::Kept),
+        ("%FF", b"5", Put::Failed),
+        ("%2e%2e/x", b"5", Put::Failed),
+        ("a%00b", b"5", Put::Failed),
     ];
     for (name, bytes, wanted) in puts {
         assert!(rt; folder.put(name, bytes) == wanted);
     }
     let mut out = Vec::new(alloc);
-    let fetches: [(&str, usize, Fetch, usize); 10] = [
-        ("a%20b", LIMIT, Fetch::Whole, 3),
-        ("a b", 2, Fetch::TooLong, 0),
-        ("deep/c", 200_000, Fetch::Whole, 200_000),
-        ("deep/c", 199_999, Fetch::TooLong, 0),
-        ("d", LIMIT, Fetch::Missing, 0),
-        ("none/c", LIMIT, Fetch::Missing, 0),
-        ("deep", LIMIT, Fetch::Failed, 0),
-        ("a b/c", LIMIT, Fetch::Failed, 0),
-        ("deep/%2e%2e/a b", LIMIT, Fetch::Missing, 0),
-        ("a%00", LIMIT, Fetch::Missing, 0),
+    let fetches: [(&str, usize, Fetch, &[u8]); 13] = [
+        ("a%20b", MOST_FILE_BYTES, Fetch::Whole, b"234"),
+        ("a b", 2, Fetch::TooLong, b""),
+        ("deep/c", 200_000, Fetch::Whole, &long),
+        ("deep/c", 199_999, Fetch::TooLong, b""),
+        ("d", MOST_FILE_BYTES, Fetch::Missing, b""),
+        ("none/c", MOST_FILE_BYTES, Fetch::Missing, b""),
+        ("deep", MOST_FILE_BYTES, Fetch::Failed, b""),
+        ("a b/c", MOST_FILE_BYTES, Fetch::Failed, b""),
+        ("deep/%2e%2e/a b", MOST_FILE_BYTES, Fetch::Missing, b""),
+        ("a..b", MOST_FILE_BYTES, Fetch::Whole, b"67"),
+        ("%FF", MOST_FILE_BYTES, Fetch::Missing, b""),
+        ("%2e%2e/x", MOST_FILE_BYTES, Fetch::Missing, b""),
+        ("a%00b", MOST_FILE_BYTES, Fetch::Missing, b""),
     ];
-    for (name, limit, wanted, length) in fetches {
-        assert!(rt; folder.fetch(name, limit.min(LIMIT), &mut out) == wanted);
-        assert!(rt; out.len() == length);
+    for (name, limit, wanted, bytes) in fetches {
+        assert!(rt; folder.fetch(name, limit.min(MOST_FILE_BYTES), &mut out) == wanted);
+        assert!(rt; out.as_slice() == bytes);
     }
     let mut outlet = WriteOutlet::new(fs::create(&rt, "stream")?);
     assert!(rt; outlet.give(b"xyz") == Give::Took(3));
@@ -200,6 +205,7 @@ fn the_folder_and_the_streams(rt: HostRuntime) -> Result<(), Fail> {
     assert!(rt; inlet.take(&mut buffer) == Take::Got(1));
     assert!(rt; inlet.take(&mut buffer) == Take::End);
     fs::remove_file(&rt, "a b")?;
+    fs::remove_file(&rt, "a..b")?;
     fs::remove_file(&rt, "deep/c")?;
     fs::remove_file(&rt, "stream")?;
     fs::remove_dir(&rt, "deep")?;

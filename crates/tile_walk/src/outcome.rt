@@ -6,15 +6,13 @@ ghost use Rattle.tile_walk.specs.Outcomes.{outcome_seen, IsOutcomeAt};
 ghost use Rattle.implicit_tiling.specs.Availability.{IsRootOf};
 
 use availability::Subtree;
-use scene_ports::{Fetch, FileSource};
+use scene_ports::{Fetch, FileSource, MOST_FILE_BYTES};
 use std::alloc::{AllocError, Global};
 use subtree_file::{DecodeFault, decode};
 use tile_coords::Tile;
 use tileset_json::Layout;
 
-// The most bytes of a subtree file, and the faults of files that aren't read (this project's own).
-const MOST_BYTES: usize = 16777216;
-
+// The faults of files that aren't read (this project's own).
 const MISSING: u64 = 1;
 
 const TOO_LONG: u64 = 2;
@@ -24,7 +22,7 @@ const TOO_LONG: u64 = 2;
 pub enum Outcome {
     /// A subtree of the layout that begins with the root.
     Good(Subtree),
-    /// The number of the file's first fault: 1 that there is no such file, 2 that it has more than 16,777,216 bytes, or
+    /// The number of the file's first fault: 1 that there is no such file, 2 that it has more than `MOST_FILE_BYTES`, or
     /// one of 3 to 18 that its bytes show.
     Bad(u64),
 }
@@ -73,7 +71,7 @@ pub fn read_subtree<S: FileSource>(
         .subtree
         .fill(layout.scheme.axes(), root.level, coordinates, &mut name)?;
     let mut bytes = Vec::new(alloc);
-    match files.fetch(name.as_str(), MOST_BYTES, &mut bytes) {
+    match files.fetch(name.as_str(), MOST_FILE_BYTES, &mut bytes) {
         Fetch::Whole => {}
         Fetch::Missing => return Ok(Outcome::Bad(MISSING)),
         Fetch::TooLong => return Ok(Outcome::Bad(TOO_LONG)),
