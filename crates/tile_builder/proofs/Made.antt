@@ -8,13 +8,14 @@ use Rattle.implicit_tiling.specs.Scene.{Layout}
 use Rattle.implicit_tiling.specs.Availability.{place, IsRootOf}
 use Rattle.implicit_tiling.specs.Subtree.{Subtree, IsSubtree, node_count}
 use Rattle.implicit_tiling.specs.Code.{IsWord}
+use Rattle.bitstream.specs.Bits.{bits_of_places}
 use Rattle.walk_laws.proofs.Lists.{map_same}
 use Rattle.walk_laws.proofs.PairOrder.{all_flat_map}
 use Rattle.tile_occupancy.specs.Occupied.{IsWordBelow}
 use Rattle.build_laws.specs.Made.{tile_in, under, has_content, node_bits, child_bits, made_subtree}
 use Rattle.build_laws.specs.Holds.{AreWordsOf}
 use Rattle.build_laws.proofs.Good.{made_well}
-use Rattle.tile_builder.specs.Bits.{content_bits}
+use Rattle.tile_builder.specs.Bits.{content_bits, node_places}
 use Rattle.tile_builder.specs.Runs.{is_below, words_below, inner_words}
 use Rattle.tile_builder.proofs.Alike.{AreAlike, filter_alike, bits_alike}
 use Rattle.tile_builder.proofs.Inner.{inner_is_under, below_are_children}
@@ -76,16 +77,16 @@ pub made_is_subtree : (layout : Layout) (words : List ℕ) (r : Tile) (s : Subtr
 made_is_subtree layout words r s are is of =
     subst IsSubtree (sym (made_is layout words r s are is of)) (made_well layout words r are is).subtree
 
-pub parts_of : (layout inside : Layout) (words tiles_from contents_from roots : List ℕ) (r : Tile) (tiles child : List Bool) (contents : List (List Bool)) → inside ≡ layout
-    → tiles_from ≡ inner_words layout words r → contents_from ≡ inner_words layout words r → roots ≡ words_below layout words r inside.subtree_levels
-    → tiles ≡ node_bits layout tiles_from → contents ≡ content_bits layout contents_from → child ≡ child_bits layout roots
+pub parts_of : (layout inside : Layout) (words places contents_from roots : List ℕ) (r : Tile) (tiles child : List Bool) (contents : List (List Bool)) → inside ≡ layout
+    → places ≡ node_places layout (inner_words layout words r) → contents_from ≡ inner_words layout words r → roots ≡ words_below layout words r inside.subtree_levels
+    → tiles ≡ bits_of_places (node_count layout.scheme layout.subtree_levels) places → contents ≡ content_bits layout contents_from → child ≡ child_bits layout roots
     → IsMadeOf layout words r (record { scheme = inside.scheme; levels = inside.subtree_levels; cut = inside.levels; root = r; tiles = tiles; contents = contents; child = child })
-parts_of layout inside words tiles_from contents_from roots r tiles child contents same nodes held below tiles_are contents_are child_is = record {
+parts_of layout inside words places contents_from roots r tiles child contents same nodes held below tiles_are contents_are child_is = record {
   scheme = ap (λ (l : Layout). l.scheme) same;
   levels = ap (λ (l : Layout). l.subtree_levels) same;
   cut = ap (λ (l : Layout). l.levels) same;
   root = refl;
-  tiles = tiles_are ∙ ap (node_bits layout) nodes;
+  tiles = tiles_are ∙ ap (bits_of_places (node_count layout.scheme layout.subtree_levels)) nodes;
   contents = contents_are ∙ ap (content_bits layout) held;
   child = child_is ∙ ap (child_bits layout) (below ∙ ap (λ (l : Layout). words_below layout words r l.subtree_levels) same);
 }

@@ -1,5 +1,5 @@
 -- Places of nodes and of child subtrees, as the code computes them.
-use Rattle.std.proofs.Common.{◌≡◌, ℕ, ◌+◌, ◌%◌, ◌^◌, ◌<◌, ◌≤◌, List, map, take, length, get_or, sym, ap, subst, ◌∙◌, arith}
+use Rattle.std.proofs.Common.{◌≡◌, ℕ, ◌+◌, ◌%◌, ◌^◌, ◌<◌, ◌≤◌, List, [], ◌++◌, map, take, length, get_or, sym, ap, subst, ◌∙◌, arith}
 use Rattle.std.specs.List.{All}
 use Rattle.std.proofs.lemmas.List.{take_all}
 use Rattle.std.proofs.lemmas.List.Elements.{All-same, All-map}
@@ -46,3 +46,7 @@ places_are_children layout ws places count are nodes =
 -- what is made for all words
 pub all_made : {X : Type 0} (f : ℕ → X) (ws : List ℕ) (i : ℕ) (same made : List X) → same ≡ made → made ≡ map f (take i ws) → length ws ≤ i → same ≡ map f ws
 all_made f ws i same made is are end = is ∙ are ∙ ap (map f) (take_all i ws end)
+
+-- what is appended to an emptied list
+pub appended_alone : (before made after shown : List ℕ) → shown ≡ after → after ≡ before ++ made → before ≡ [] → shown ≡ made
+appended_alone before made after shown same more none = same ∙ more ∙ ap (λ v. v ++ made) none

@@ -1,32 +1,34 @@
 // The bits of a subtree that stand for the tiles of some words.
-ghost use Rattle.std.specs.Prelude.{◌≡◌, ◌<◌, ◌≤◌, IfOk, filter};
+ghost use Rattle.std.specs.Prelude.{◌≡◌, ◌++◌, ◌<◌, ◌≤◌, ℕ, IfOk, OnOk, filter, map};
 ghost use Rattle.std.specs.List.{All};
 ghost use Rattle.implicit_tiling.specs.Code.{IsWord};
 ghost use Rattle.implicit_tiling.specs.Limits.{most_contents};
-ghost use Rattle.build_laws.specs.Made.{tile_in, node_bits as node_bits_of, child_bits as child_bits_of, child_place as child_place_of, has_content as has_content_of};
+ghost use Rattle.build_laws.specs.Made.{tile_in, child_bits as child_bits_of, child_place as child_place_of, has_content};
 ghost use Rattle.implicit_tiling.specs.Availability.{place};
-ghost use Rattle.tile_builder.specs.Bits.{content_bits as content_bits_of};
+ghost use Rattle.implicit_tiling.specs.Subtree.{node_count};
+ghost use Rattle.bitstream.specs.Bits.{bits_of_places};
+ghost use Rattle.tile_builder.specs.Bits.{node_places as node_places_of, content_bits as content_bits_of};
 
-use availability::{index_of, nodes_above, nodes_at, tile_of, word_tile};
+use availability::{index_of, mask_of, nodes_above, nodes_at, word_tile};
 use bitstream::Bits;
 use std::alloc::{AllocError, Global};
-use tile_coords::{Scheme, Word};
+use tile_coords::Word;
 use tileset_json::Layout;
 
-// A bit for each node of a subtree: those of the words are 1 (OGC 22-025r4, tile availability).
-pub(crate) fn node_bits(alloc: Global, layout: &Layout, words: &[Word]) -> Result<Bits, AllocError>
+// The places of the tiles of some words among the nodes of their subtrees.
+pub(crate) fn node_places(
+    alloc: Global,
+    layout: &Layout,
+    words: &[Word],
+) -> Result<Vec<u64>, AllocError>
     requires { All (IsWord layout.now.scheme) words.now }
-    ensures { IfOk result (λ bits. bits ≡ node_bits_of layout.now words.now) }
+    ensures { IfOk result (λ places. places.items ≡ node_places_of layout.now words.now) }
 {
     let mut places = Vec::with_capacity(alloc, words.len())?;
     for &word in words {
         places.push(node_place(layout, word))?;
     }
-    Bits::of_places(
-        alloc,
-        nodes_above(layout.scheme, layout.subtree_levels),
-        &places,
-    )
+    Ok(places)
 }
 
 // The place of a tile among the nodes of its subtree.
@@ -38,6 +40,18 @@ fn node_place(layout: &Layout, word: Word) -> u64
     let local = tile.level % layout.subtree_levels;
     nodes_above(layout.scheme, local)
         + index_of(layout.scheme, &tile) % nodes_at(layout.scheme, local)
+}
+
+// A bit for each node of a subtree: those at the places are 1 (OGC 22-025r4, tile availability).
+pub(crate) fn node_bits(alloc: Global, layout: &Layout, places: &[u64]) -> Result<Bits, AllocError>
+    requires { All (λ p. p < node_count layout.now.scheme layout.now.subtree_levels) places.now }
+    ensures { IfOk result (λ bits. bits ≡ bits_of_places (node_count layout.now.scheme layout.now.subtree_levels) places.now) }
+{
+    Bits::of_places(
+        alloc,
+        nodes_above(layout.scheme, layout.subtree_levels),
+        places,
+    )
 }
 
 // A bit for each child subtree: those with the roots of the words are 1 (OGC 22-025r4, child subtree availability).
@@ -65,51 +79,41 @@ fn child_place(layout: &Layout, root: Word) -> u64
     index_of(layout.scheme, &tile) % nodes_at(layout.scheme, layout.subtree_levels)
 }
 
-// For each content a bit for each node of a subtree: those of the words with the content are 1 (OGC 22-025r4, content
-// availability).
+// For each content a bit for each node of a subtree: those of the words with the content are 1, each of which has its place
+// (OGC 22-025r4, content availability).
 pub(crate) fn content_bits(
     alloc: Global,
     layout: &Layout,
     words: &[Word],
+    places: &[u64],
 ) -> Result<Vec<Bits>, AllocError>
-    requires { All (IsWord layout.now.scheme) words.now }
+    requires { places.now ≡ node_places_of layout.now words.now }
     ensures { IfOk result (λ contents. contents.items ≡ content_bits_of layout.now words.now) }
 {
     let mut contents = Vec::new(alloc);
+    let mut held = Vec::new(alloc);
     for content in 0..layout.contents.len() {
-        let held = content_words(alloc, layout.scheme, words, content)?;
+        held.clear();
+        append_held(words, places, content, &mut held)?;
         contents.push(node_bits(alloc, layout, &held)?)?;
     }
     Ok(contents)
 }
 
-// The words of the tiles on which a content stands.
-fn content_words(
-    alloc: Global,
-    scheme: Scheme,
+// Appends the places of the words with a content.
+fn append_held(
     words: &[Word],
+    places: &[u64],
     content: usize,
-) -> Result<Vec<Word>, AllocError>
-    requires words { All (IsWord scheme) words.now }
-    requires content { content < most_contents }
-    ensures { IfOk result (λ found. found.items ≡ filter (has_content_of content) words.now) }
+    held: &mut Vec<u64>,
+) -> Result<(), AllocError>
+    requires { content < most_contents }
+    ensures { (place : ℕ → ℕ) → places.now ≡ map place words.now → OnOk result (held.new.items ≡ held.old.items ++ map place (filter (has_content content) words.now)) }
 {
-    let mut found = Vec::new(alloc);
-    for &word in words {
-        if has_content(scheme, word, content) {
-            found.push(word)?;
+    for (word, place) in words.iter().zip(places) {
+        if mask_of(*word) >> content & 1 == 1 {
+            held.push(*place)?;
         }
     }
-    Ok(found)
-}
-
-fn has_content(scheme: Scheme, word: Word, content: usize) -> bool
-    requires word { IsWord scheme word }
-    requires content { content < most_contents }
-    ensures { result ≡ has_content_of content word }
-{
-    match tile_of(scheme, word) {
-        Some(found) => (found.mask >> content) % 2 == 1,
-        None => false,
-    }
+    Ok(())
 }

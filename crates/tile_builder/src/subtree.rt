@@ -6,7 +6,7 @@ ghost use Rattle.build_laws.specs.Made.{made_subtree as made_subtree_of};
 ghost use Rattle.implicit_tiling.specs.Availability.{IsRootOf};
 ghost use Rattle.tile_builder.specs.Runs.{inner_words as inner_words_of};
 
-use crate::bits::{child_bits, content_bits, node_bits};
+use crate::bits::{child_bits, content_bits, node_bits, node_places};
 use crate::runs::words_below;
 use availability::Subtree;
 use std::alloc::{AllocError, Global};
@@ -26,14 +26,15 @@ pub(crate) fn made_subtree(
     ensures { IfOk result (λ subtree. subtree ≡ made_subtree_of layout.now words.now root) }
 {
     let inner = inner_words(alloc, layout, words, &root)?;
+    let places = node_places(alloc, layout, &inner)?;
     let roots = words_below(layout, words, &root, layout.subtree_levels);
     Ok(Subtree {
         scheme: layout.scheme,
         levels: layout.subtree_levels,
         cut: layout.levels,
         root,
-        tiles: node_bits(alloc, layout, &inner)?,
-        contents: content_bits(alloc, layout, &inner)?,
+        tiles: node_bits(alloc, layout, &places)?,
+        contents: content_bits(alloc, layout, &inner, &places)?,
         child: child_bits(alloc, layout, roots)?,
     })
 }

@@ -10,4 +10,4 @@ mod tileset;
 
 pub use outcome::{Outcome, WalkStop, read_subtree};
 pub use region::fresh;
-pub use tileset::check_all;
+pub use tileset::{check_all, whole_plan};

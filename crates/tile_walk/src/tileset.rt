@@ -10,6 +10,7 @@ ghost use Rattle.scene_ports.specs.Counts.{Rose};
 ghost use Rattle.walk_laws.specs.Children.{roots_below};
 ghost use Rattle.walk_laws.specs.Regions.{whole};
 ghost use Rattle.tile_walk.specs.Checks.{found_faults, Counts, IsOnWalk, IsCheck, AreFaults};
+ghost use Rattle.tile_walk.specs.Plans.{FitsLayout};
 ghost use Rattle.tile_walk.specs.Roots.{IsRootWord, AreRoots};
 
 use crate::outcome::{Outcome, WalkStop, read_subtree};
@@ -19,7 +20,7 @@ use availability::Subtree;
 use region_scan::child_roots;
 use scene_ports::FileSource;
 use std::alloc::{AllocError, Global};
-use tile_coords::{CheckEnd, FoundFault, Region, Word};
+use tile_coords::{CheckEnd, FoundFault, Plan, Region, Word};
 use tileset_json::Layout;
 
 // The most roots that are looked at (this project's own).
@@ -42,24 +43,28 @@ pub fn check_all<S: FileSource>(
     ensures later { S.faults files.old ≤ S.faults files.new }
     ensures same { S.told files.new ≡ S.told files.old }
 {
-    let region = whole_region(layout);
+    let plan = whole_plan(layout);
     let mut faults = Vec::new(alloc);
-    let end = check(alloc, files, layout, &region, &mut faults)?;
+    let end = check(alloc, files, layout, &plan.region, &mut faults)?;
     *found = faults;
     Ok(end)
 }
 
-// The region of all tiles.
-fn whole_region(layout: &Layout) -> Region
-    ensures { result ≡ whole layout.now.scheme layout.now.levels }
+/// The plan of the region of all tiles.
+pub fn whole_plan(layout: &Layout) -> Plan
+    ensures fits { FitsLayout layout.now result }
+    ensures region { result.region ≡ whole layout.now.scheme layout.now.levels }
 {
     let level = layout.levels - 1;
     let last = (1u32 << level) - 1;
     let hi = [last, last, layout.scheme.depth(last)];
-    Region {
-        level,
-        lo: [0, 0, 0],
-        hi,
+    Plan {
+        scheme: layout.scheme,
+        region: Region {
+            level,
+            lo: [0, 0, 0],
+            hi,
+        },
     }
 }
 

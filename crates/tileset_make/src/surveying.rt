@@ -6,7 +6,6 @@ ghost use Rattle.implicit_tiling.specs.Limits.{most_contents};
 ghost use Rattle.implicit_tiling.specs.Code.{word_mask, IsWord};
 ghost use Rattle.implicit_tileset.specs.Scene.{scene_of};
 ghost use Rattle.walk_laws.specs.Regions.{whole};
-ghost use Rattle.tile_walk.specs.Plans.{FitsLayout};
 ghost use Rattle.tile_walk.specs.Walks.{AreFound, IsAnswer};
 ghost use Rattle.tile_occupancy.specs.Occupied.{IsOccupancy};
 ghost use Rattle.build_laws.specs.Holds.{HoldsTiles};
@@ -16,13 +15,13 @@ use crate::found::Survey;
 use crate::layout::layout_of;
 use crate::making::make;
 use crate::recipe::Recipe;
-use availability::tile_of;
+use availability::mask_of;
 use framed_walk::framed;
 use scene_ports::{FileSource, SureFiles, SureKeeper};
 use std::alloc::{AllocError, Global};
 use tile_builder::{BuildStop, Built};
-use tile_coords::{Plan, Region, Scheme, WalkEnd, Word};
-use tile_walk::WalkStop;
+use tile_coords::{WalkEnd, Word};
+use tile_walk::{WalkStop, whole_plan};
 use tileset_json::Layout;
 
 // The frames of the walk over all tiles.
@@ -39,7 +38,7 @@ pub fn survey(alloc: Global, recipe: &Recipe) -> Result<Survey, AllocError>
         files: built.files,
         tiles: built.tiles,
         listed: words.len() as u64,
-        contents: count_contents(recipe.scheme, &words),
+        contents: count_contents(&words),
         more: is_cut(end),
     })
 }
@@ -82,26 +81,6 @@ fn all_words(
     }
 }
 
-// The plan of the region of all tiles.
-fn whole_plan(layout: &Layout) -> Plan
-    ensures fits { FitsLayout layout.now result }
-    ensures region { result.region ≡ whole layout.now.scheme layout.now.levels }
-{
-    let last = (1u32 << (layout.levels - 1)) - 1;
-    let depth = match layout.scheme {
-        Scheme::Quad => 0,
-        Scheme::Oct => last,
-    };
-    Plan {
-        scheme: layout.scheme,
-        region: Region {
-            level: layout.levels - 1,
-            lo: [0, 0, 0],
-            hi: [last, last, depth],
-        },
-    }
-}
-
 // Whether an answer ends at the most tiles, with more behind them.
 fn is_cut(end: WalkEnd) -> bool
     ensures { IsTrue result ↔ (end ≡ WalkEnd.TooMany) }
@@ -110,26 +89,21 @@ fn is_cut(end: WalkEnd) -> bool
 }
 
 // The contents of the tiles of some words.
-fn count_contents(scheme: Scheme, words: &[Word]) -> u64
-    requires words { All (IsWord scheme) words.now }
-    requires few { length words.now ≤ most_tiles }
+fn count_contents(words: &[Word]) -> u64
+    requires { length words.now ≤ most_tiles }
     ensures { result ≡ sum_by (λ w. count_ones (word_mask w)) words.now }
 {
     let mut contents = 0;
     for word in words {
-        contents += contents_at(scheme, *word);
+        contents += contents_at(*word);
     }
     contents
 }
 
 // The contents of the tile of a word.
-fn contents_at(scheme: Scheme, word: Word) -> u64
-    requires { IsWord scheme word }
+fn contents_at(word: Word) -> u64
     ensures ones { result ≡ count_ones (word_mask word) }
     ensures few { result ≤ most_contents }
 {
-    match tile_of(scheme, word) {
-        Some(found) => u64::from(found.mask.count_ones()),
-        None => unreachable!(),
-    }
+    u64::from(mask_of(word).count_ones())
 }
