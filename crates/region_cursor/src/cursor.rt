@@ -5,9 +5,9 @@ ghost use Rattle.implicit_tiling.specs.Scene.{Scene};
 ghost use Rattle.implicit_tiling.specs.Subtree.{IsSubtree};
 ghost use Rattle.implicit_tiling.specs.Answer.{most_tiles};
 ghost use Rattle.implicit_tiling.specs.Nodes.{child_words};
+ghost use Rattle.tile_coords.specs.Ends.{EndsAtRoot};
 ghost use Rattle.tile_walk.specs.Outcomes.{outcome_seen};
 ghost use Rattle.tile_walk.specs.Plans.{FitsLayout};
-ghost use Rattle.tile_walk.specs.Walks.{EndsAtWord};
 ghost use Rattle.region_cursor.specs.Cursor.{local_level_of, is_last_local as is_last_local_of, key_of, next_root, Fits, FitsSubtree, IsCursor, IsRootKey, IsTileWord, IsWalkOf, IsSameWalk};
 ghost use Rattle.region_cursor.specs.Moves.{begun, over, next_level, level_after, passed, went_on, with_children, made, made_good, made_bad};
 ghost use Rattle.region_cursor.specs.Walked.{IsAt, IsNextKey, GivesStep};
@@ -100,7 +100,7 @@ impl CursorState {
 
         ensures few { IfOk result (λ end. self.old.count + length words.new.items ≤ most_tiles) }
         ensures are_words { IfOk result (λ end. All (IsTileWord self.old.scheme self.old.contents) words.new.items) }
-        ensures root { IfOk result (EndsAtWord self.old.scheme) }
+        ensures root { IfOk result (EndsAtRoot self.old.scheme) }
         ensures same { IfOk result (λ end. IsSameWalk self.old self.new) }
 
         ensures unchanged { IfErr result (λ e. self.new ≡ self.old) }
@@ -153,7 +153,7 @@ impl CursorState {
         ensures end { result ≡ (made_bad self.old number).end }
         ensures after { self.new ≡ (made_bad self.old number).after }
         ensures given { self.old.count ≤ most_tiles }
-        ensures root { EndsAtWord self.old.scheme result }
+        ensures root { EndsAtRoot self.old.scheme result }
     {
         if self.local_level() != 0 {
             return self.go_on();

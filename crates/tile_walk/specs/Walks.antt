@@ -5,7 +5,7 @@ use Rattle.implicit_tiling.specs.Tile.{Tile}
 use Rattle.implicit_tiling.specs.Region.{Region}
 use Rattle.implicit_tiling.specs.Scene.{Layout, Scene, fault_of}
 use Rattle.implicit_tiling.specs.Availability.{mask}
-use Rattle.implicit_tiling.specs.Code.{word, word_tile, IsWord}
+use Rattle.implicit_tiling.specs.Code.{word, word_tile}
 use Rattle.implicit_tiling.specs.Answer.{is_on_walk, most_tiles, answer}
 use Rattle.implicit_tiling.specs.Steps.{Pair, pair_of, pair_fault, ended}
 use Rattle.walk_laws.specs.Children.{roots_below}
@@ -80,13 +80,6 @@ frontier_if false roots next = roots
 pub record IsWalked (s : Scene) (region : Region) (level w : ℕ) : Type 0 where
   pub on_walk : is_on_walk s region (word_tile s.layout.scheme w) ≡ true
   pub no_fault : (level % s.layout.subtree_levels ≡ 0 → ⊥) → fault_of (s.outcome (word_tile s.layout.scheme w)) ≡ None
-
--- the root of an end is a word
-abbrev pub EndsAtWord : Scheme → WalkEnd → Type 0
-EndsAtWord scheme Partial = Unit {0}
-EndsAtWord scheme Complete = Unit {0}
-EndsAtWord scheme TooMany = Unit {0}
-EndsAtWord scheme (Fault root n) = IsWord scheme root
 
 -- what a walk of any source has found, also of one that doesn't tell its files
 pub record AreFound (scheme : Scheme) (words : List ℕ) : Type 0 where

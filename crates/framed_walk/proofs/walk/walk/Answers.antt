@@ -6,7 +6,8 @@ use Rattle.implicit_tiling.specs.Code.{word_tile}
 use Rattle.implicit_tileset.specs.Scene.{scene_of}
 use Rattle.region_cursor.specs.Cursor.{IsRootKey, key_of, next_root}
 use Rattle.tile_walk.specs.Outcomes.{outcome_seen}
-use Rattle.tile_walk.specs.Walks.{EndsAtWord, IsAnswer}
+use Rattle.tile_coords.specs.Ends.{EndsAtRoot}
+use Rattle.tile_walk.specs.Walks.{IsAnswer}
 use Rattle.region_cursor.proofs.Callers.{walk_stays, next_root_of_key, outcome_fits}
 use Rattle.tile_walk.proofs.Reading.{of_told, both_told}
 use Rattle.framed_walk.specs.Frames.{IsHeld}
@@ -61,7 +62,7 @@ loop-next-preserved g c =
       few = c.next_key-next-in-Some.ensures.few;
       found = found_more layout.scheme cursor.scheme cursor.contents cursor.count words more all inv.found inv.count inv.of_layout.same_scheme
           c.in_ok-end.ensures.are_words c.in_ok-end.ensures.few is;
-      end_is = subst (λ (e : Scheme). EndsAtWord e c.in_ok-end.end) inv.of_layout.same_scheme c.in_ok-end.ensures.root;
+      end_is = subst (λ (e : Scheme). EndsAtRoot e c.in_ok-end.end) inv.of_layout.same_scheme c.in_ok-end.ensures.root;
       over = λ none partial. not_partial cursor c.look.result.now (sym c.in_ok-end.ensures.end ∙ partial)
           (ap key_of (sym c.in_ok-end.ensures.after) ∙ sym c.next_key-next-in-Some.ensures.key ∙ none);
       walked =
