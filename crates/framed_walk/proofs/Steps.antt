@@ -22,7 +22,7 @@ use Rattle.walk_laws.proofs.StepLaw.{steps_have_the_tiles, steps_end_as_the_answ
 use Rattle.tile_walk.specs.declared.outcome.Outcome.{Outcome}
 use Rattle.tile_walk.specs.declared.outcome.Outcome.TheVariants.{Good, Bad}
 use Rattle.region_cursor.specs.Cursor.{Cursor, IsWalkOf, IsRootKey, IsTileWord, key_of, local_level_of, is_last_local}
-use Rattle.region_cursor.specs.Moves.{over, level_after, pair_after, passed, end_by_key, room, counted, with_children, made_by, made_at, made}
+use Rattle.region_cursor.specs.Moves.{over, level_after, pair_after, passed, end_by_key, room, counted, with_children, made_by, made}
 use Rattle.tile_walk.specs.Roots.{IsRootWord}
 use Rattle.tile_walk.specs.Plans.{IsRegionOf}
 use Rattle.tile_walk.specs.Walks.{tile_word, AreFound, IsAnswer}
@@ -48,14 +48,10 @@ by_more : (more : Bool) (words : List ℕ) (c : Cursor) → (made_by more words 
 by_more true words c is none = cc
 by_more false words c is none = by_key (key_of (passed c)) is none
 
-by_level : (own : Bool) (c : Cursor) (number : ℕ) → (made_at own c number).end ≡ Partial → key_of (made_at own c number).after ≡ None → ⊥
-by_level true c number is none = cc
-by_level false c number is none = by_key (key_of (passed c)) is none
-
 pub not_partial : (c : Cursor) (found : Outcome) → (made c found).end ≡ Partial → key_of (made c found).after ≡ None → ⊥
 not_partial c (Good st) is none =
     by_more (nat_lt (room c) (length (level_words st c.region (local_level_of c)))) (take (room c) (level_words st c.region (local_level_of c))) _ is none
-not_partial c (Bad number) is none = by_level (local_level_of c == 0) c number is none
+not_partial c (Bad number) is none = cc
 
 -- the state after a step without its words: within the region, and lower
 pub record Falls (c after : Cursor) : Type 0 where
@@ -126,17 +122,13 @@ leaves_more c mid words more region level roots position count low h =
       | false ↦ leaves c mid (passed mid) words region level roots position count (falls_passed mid l p)
     ]
 
-leaves_bad : (c : Cursor) (own : Bool) (number : ℕ) → c.level ≤ c.region.level → c.position < length c.roots → Leaves c (made_at own c number).after (made_at own c number).words
-leaves_bad c true number low h = leaves c c (over c) [] refl refl refl refl (sym (add-zero c.count)) (falls_over c low h)
-leaves_bad c false number low h = leaves c c (passed c) [] refl refl refl refl (sym (add-zero c.count)) (falls_passed c low h)
-
 pub step_leaves : (c : Cursor) (found : Outcome) (key : ℕ) → key_of c ≡ Some key → c.level ≤ c.region.level → Leaves c (made c found).after (made c found).words
 step_leaves c (Good st) key at low =
     let all = level_words st c.region (local_level_of c) in
     let more = nat_lt (room c) (length all) in
     let words = take (room c) all in
     leaves_more c (counted words (with_children more c (child_words st c.region))) words more refl refl refl refl refl low (slice_get_within c.roots c.position key at)
-step_leaves c (Bad number) key at low = leaves_bad c (local_level_of c == 0) number low (slice_get_within c.roots c.position key at)
+step_leaves c (Bad number) key at low = leaves c c (over c) [] refl refl refl refl (sym (add-zero c.count)) (falls_over c low (slice_get_within c.roots c.position key at))
 
 -- the words that are found
 pub found_more : (scheme own : Scheme) (contents count : ℕ) (words more all : List ℕ) → AreFound scheme words → count ≡ length words → own ≡ scheme

@@ -22,7 +22,7 @@ use tileset_json::Layout;
 /// The answer for a plan that fits the layout, over this many frames (1 to 1,024): `words` becomes the words of its tiles in
 /// key order, at most 65,536, and the end is that of the answer, so never Partial (OGC 22-025r4, implicit tiling:
 /// availability). Each root on the walk is read, once for each level that its subtree gives where no frame holds it any
-/// more. An Err leaves `words` as it was.
+/// more; a file that has a fault when it is read again ends the walk with it. An Err leaves `words` as it was.
 pub fn framed<S: FileSource>(
     alloc: Global,
     files: &mut S,

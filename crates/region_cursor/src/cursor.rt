@@ -89,8 +89,9 @@ impl CursorState {
     }
 
     /// Makes the next step from the outcome of the root of the next key: `words` becomes the tiles of one local level of
-    /// its subtree, or the first of them up to 65,536 in all with TooMany, or nothing with Fault where the file has one
-    /// and the level is the root's own. Memory is the one error; it leaves the walk and `words` as they were.
+    /// its subtree, or the first of them up to 65,536 in all with TooMany, or nothing with Fault where the outcome is Bad,
+    /// also below the root's own level: the file may have changed since it was read there. Memory is the one error; it
+    /// leaves the walk and `words` as they were.
     pub fn step(&mut self, outcome: &Outcome, words: &mut Vec<Word>) -> Result<WalkEnd, AllocError>
         requires key { IsSome (key_of self.old) }
         requires fits { Fits self.old outcome.now }
@@ -147,7 +148,7 @@ impl CursorState {
         Ok(self.go_on())
     }
 
-    // Only at the root's own level a fault ends the walk; below it a faulty file has no tiles.
+    // A fault ends the walk at each local level.
     fn step_bad(&mut self, number: u64) -> WalkEnd
         requires key { IsSome (key_of self.old) }
         ensures end { result ≡ (made_bad self.old number).end }
@@ -155,9 +156,6 @@ impl CursorState {
         ensures given { self.old.count ≤ most_tiles }
         ensures root { EndsAtRoot self.old.scheme result }
     {
-        if self.local_level() != 0 {
-            return self.go_on();
-        }
         let root = self.roots[self.position];
         self.finish();
         WalkEnd::Fault { root, number }

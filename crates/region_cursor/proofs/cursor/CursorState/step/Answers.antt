@@ -1,16 +1,15 @@
 use Rattle.std.proofs.Common.{◌≡◌, ◌+◌, ℕ, subst, sym, ap, ◌∙◌}
-use Rattle.std.specs.Prelude.{◌==◌}
 use Rattle.std.specs.List.{All}
 use Rattle.std.proofs.lemmas.List.Elements.{All-same}
 use Rattle.std.proofs.lemmas.Result.{IfOk-weaker}
 use Rattle.implicit_tiling.specs.Scene.{Scene}
 use Rattle.tile_walk.specs.declared.outcome.Outcome.TheVariants.{Good, Bad}
-use Rattle.region_cursor.specs.Cursor.{local_level_of, next_root, IsTileWord, Fits}
+use Rattle.region_cursor.specs.Cursor.{next_root, IsTileWord, Fits}
 use Rattle.region_cursor.specs.Moves.{made_good}
 use Rattle.tile_walk.specs.Outcomes.{outcome_seen}
 use Rattle.region_cursor.specs.Walked.{IsAt, GivesStep}
 use Rattle.region_cursor.proofs.Results.{if_all}
-use Rattle.region_cursor.proofs.Words.{words_of_step, no_words_of_fault}
+use Rattle.region_cursor.proofs.Words.{words_of_step}
 use Rattle.region_cursor.proofs.Walked.{makes_as_given}
 use Rattle.region_cursor.proofs.cursor.CursorState.step.Goals as goal
 
@@ -42,4 +41,4 @@ returns-in-Bad-clause-scene c =
     let n = c.in-Bad.number in
     let told = ap outcome_seen (sym c.in-Bad.is) in
     λ s k is same.
-    makes_as_given s self.region k self (Bad n) c.clear.new.self.items c.step_bad.result c.step_bad.new.self (c.clear.ensures.items ∙ no_words_of_fault (local_level_of self == 0) self n) c.step_bad.ensures.end c.step_bad.ensures.after is c.requires.key tt tt (told ∙ same)
+    makes_as_given s self.region k self (Bad n) c.clear.new.self.items c.step_bad.result c.step_bad.new.self c.clear.ensures.items c.step_bad.ensures.end c.step_bad.ensures.after is c.requires.key tt tt (told ∙ same)
