@@ -15,7 +15,7 @@ use Rattle.implicit_tiling.specs.Region.{Region, Plan}
 use Rattle.implicit_tiling.specs.Scene.{Layout, Scene, good, bad, fault_of}
 use Rattle.implicit_tiling.specs.Availability.{local_level, is_subtree_root, is_reached}
 use Rattle.implicit_tiling.specs.Answer.{most_tiles, too_many, fault}
-use Rattle.implicit_tiling.specs.Subtree.{Subtree, IsSubtree, bits_of}
+use Rattle.implicit_tiling.specs.Subtree.{Subtree, IsSubtree, has_orphan, bits_of}
 use Rattle.implicit_tiling.specs.Code.{word, word_tile}
 use Rattle.implicit_tiling.specs.Nodes.{level_words, child_words}
 use Rattle.implicit_tiling.specs.Steps.{Pair, pair_of, walk_roots, segment, pair_fault, last_or_not, ended, Step, step_then, steps, steps_from}
@@ -35,7 +35,7 @@ use Rattle.walk_laws.proofs.WalkRoots.{child_words_are_root_words}
 use Rattle.walk_laws.proofs.Pairs.{pairs_more, pairs_go_down, roots_of_inner_levels, fault_at_own_level, no_fault_of_good}
 use Rattle.tile_walk.specs.declared.outcome.Outcome.{Outcome}
 use Rattle.tile_walk.specs.declared.outcome.Outcome.TheVariants.{Good, Bad}
-use Rattle.region_cursor.specs.Cursor.{Cursor, local_level_of, is_last_local, key_of, next_root, FitsSubtree, Fits}
+use Rattle.region_cursor.specs.Cursor.{Cursor, local_level_of, is_last_local, key_of, next_root, FitsSubtree, Fits, HasNoOrphan}
 use Rattle.tile_walk.specs.Plans.{FitsLayout}
 use Rattle.region_cursor.specs.Moves.{begun, over, passed, end_by_key, Made, went_on, children_if, with_children, counted, room, made_by, made_good, made_bad, made}
 use Rattle.tile_walk.specs.Outcomes.{outcome_seen}
@@ -211,8 +211,8 @@ subtree_root_is s region k c st on h fits is =
     ∙ tile_of_word s.layout.scheme r 0 (root_has_word s region k c on h) short
 
 is_decoded : (s : Scene) (region : Region) (k : ℕ) (c : Cursor) (st : Subtree) → IsUnderWay s region k c → c.position < length (row s region c)
-    → FitsSubtree c st → IsSubtree st → good (bits_of st) ≡ s.outcome (next_root c) → IsDecoded s st
-is_decoded s region k c st on h fits is same =
+    → FitsSubtree c st → has_orphan st ≡ false → IsSubtree st → good (bits_of st) ≡ s.outcome (next_root c) → IsDecoded s st
+is_decoded s region k c st on h fits whole is same =
     let here = subtree_root_is s region k c st on h fits is in
     record {
       within_limits = is;
@@ -223,7 +223,7 @@ is_decoded s region k c st on h fits is same =
         contents_named = omega (arith, fits.contents_named, on.of_scene.same_contents);
         root_at_start = sym (ap (λ n. st.root.level % n) on.of_scene.same_subtree_levels) ∙ fits.root_at_start;
       };
-      no_orphan = fits.no_orphan;
+      no_orphan = whole;
       same_bits = ap s.outcome (here ∙ sym (next_root_is s region k c on h)) ∙ sym same;
       reached = ap (is_reached s) here ∙ (root_is_on_walk s region c h).reached;
     }
@@ -234,10 +234,10 @@ record SubtreeHere (s : Scene) (region : Region) (c : Cursor) (st : Subtree) : T
   children : child_words st c.region ≡ map (root_word s) (roots_below s region (root_here s region c))
 
 subtree_here : (s : Scene) (region : Region) (k : ℕ) (c : Cursor) (st : Subtree) → IsUnderWay s region k c → c.position < length (row s region c)
-    → FitsSubtree c st → IsSubtree st → good (bits_of st) ≡ s.outcome (next_root c) → SubtreeHere s region c st
-subtree_here s region k c st on h fits is same =
+    → FitsSubtree c st → has_orphan st ≡ false → IsSubtree st → good (bits_of st) ≡ s.outcome (next_root c) → SubtreeHere s region c st
+subtree_here s region k c st on h fits whole is same =
     let here = subtree_root_is s region k c st on h fits is in
-    let decoded = is_decoded s region k c st on h fits is same in
+    let decoded = is_decoded s region k c st on h fits whole is same in
     let local = local_level_of c in
     let low : local < st.levels = omega (arith, local_is_low s region k c on, fits.same_levels, on.of_scene.same_subtree_levels) in
     let level : st.root.level + local ≡ c.level = omega (arith, level_here s region k c on h, ap (λ (t : Tile). t.level) here) in
@@ -278,9 +278,9 @@ makes_of s region k c st false on h is over =
     (all ∙ is.words)
 
 makes_good : (s : Scene) (region : Region) (k : ℕ) (c : Cursor) (st : Subtree) → IsUnderWay s region k c → c.position < length (row s region c)
-    → FitsSubtree c st → IsSubtree st → good (bits_of st) ≡ s.outcome (next_root c) → MakesStep s region k (made_good c st)
-makes_good s region k c st on h fits is same =
-    makes_of s region k c st (nat_lt (room c) (length (level_words st c.region (local_level_of c)))) on h (subtree_here s region k c st on h fits is same) refl
+    → FitsSubtree c st → has_orphan st ≡ false → IsSubtree st → good (bits_of st) ≡ s.outcome (next_root c) → MakesStep s region k (made_good c st)
+makes_good s region k c st on h fits whole is same =
+    makes_of s region k c st (nat_lt (room c) (length (level_words st c.region (local_level_of c)))) on h (subtree_here s region k c st on h fits whole is same) refl
 
 -- below its own level a root on the walk has no faulty file: the pair of that level is done, and told no fault
 own_pair_told_none : (s : Scene) (region : Region) (k : ℕ) (c : Cursor) → IsUnderWay s region k c → c.position < length (row s region c) → (local_level_of c ≡ 0 → ⊥)
@@ -326,11 +326,11 @@ HasLimits (Good st) = IsSubtree st
 HasLimits (Bad n) = Unit {0}
 
 makes_by : (s : Scene) (region : Region) (k : ℕ) (c : Cursor) (key : ℕ) (o : Outcome) → IsAt s region k c → key_of c ≡ Some key
-    → Fits c o → HasLimits o → outcome_seen o ≡ s.outcome (next_root c) → MakesStep s region k (made c o)
-makes_by s region k c key (Good st) is at fits limits same =
+    → Fits c o → HasNoOrphan o → HasLimits o → outcome_seen o ≡ s.outcome (next_root c) → MakesStep s region k (made c o)
+makes_by s region k c key (Good st) is at fits whole limits same =
     let on = is_under_way s region k c key is at in
-    makes_good s region k c st on (place_of_key s region k c key on at) fits limits same
-makes_by s region k c key (Bad n) is at fits limits same =
+    makes_good s region k c st on (place_of_key s region k c key on at) fits whole limits same
+makes_by s region k c key (Bad n) is at fits whole limits same =
     let on = is_under_way s region k c key is at in
     let h = place_of_key s region k c key on at in
     let faulty = ap s.outcome (sym (next_root_is s region k c on h)) ∙ sym same in
@@ -342,10 +342,10 @@ some_key (Some key) is = (key, refl)
 some_key None is = cc
 
 pub makes_step : (s : Scene) (region : Region) (k : ℕ) (c : Cursor) (o : Outcome) → IsAt s region k c → IsSome (key_of c)
-    → Fits c o → HasLimits o → outcome_seen o ≡ s.outcome (next_root c) → MakesStep s region k (made c o)
-makes_step s region k c o is some fits limits same =
+    → Fits c o → HasNoOrphan o → HasLimits o → outcome_seen o ≡ s.outcome (next_root c) → MakesStep s region k (made c o)
+makes_step s region k c o is some fits whole limits same =
     let key = some_key (key_of c) some in
-    makes_by s region k c key.0 o is key.1 fits limits same
+    makes_by s region k c key.0 o is key.1 fits whole limits same
 
 -- the beginning
 pub begins : (s : Scene) (region : Region) → 1 ≤ s.layout.subtree_levels → 1 ≤ s.layout.levels → s.layout.levels ≤ most_levels s.layout.scheme → IsRegion region
@@ -364,10 +364,10 @@ begins s region some some_levels few_levels is = record {
 -- a step as it was made
 pub makes_as_given : (s : Scene) (region : Region) (k : ℕ) (c : Cursor) (o : Outcome) (words : List ℕ) (end : WalkEnd) (after : Cursor)
     → words ≡ (made c o).words → end ≡ (made c o).end → after ≡ (made c o).after
-    → IsAt s region k c → IsSome (key_of c) → Fits c o → HasLimits o → outcome_seen o ≡ s.outcome (next_root c)
+    → IsAt s region k c → IsSome (key_of c) → Fits c o → HasNoOrphan o → HasLimits o → outcome_seen o ≡ s.outcome (next_root c)
     → GivesStep s region k words end × IsAt s region (k + 1) after
-makes_as_given s region k c o words end after words_are end_is after_is is some fits limits same =
-    let m = makes_step s region k c o is some fits limits same in (
+makes_as_given s region k c o words end after words_are end_is after_is is some fits whole limits same =
+    let m = makes_step s region k c o is some fits whole limits same in (
       subst (λ w. GivesStep s region k w end) (sym words_are) (subst (λ e. GivesStep s region k (made c o).words e) (sym end_is) m.given),
       subst (λ a. IsAt s region (k + 1) a) (sym after_is) m.after,
     )

@@ -8,7 +8,7 @@ ghost use Rattle.implicit_tiling.specs.Nodes.{child_words};
 ghost use Rattle.tile_coords.specs.Ends.{EndsAtRoot};
 ghost use Rattle.tile_walk.specs.Outcomes.{outcome_seen};
 ghost use Rattle.tile_walk.specs.Plans.{FitsLayout};
-ghost use Rattle.region_cursor.specs.Cursor.{local_level_of, is_last_local as is_last_local_of, key_of, next_root, Fits, FitsSubtree, IsCursor, IsRootKey, IsTileWord, IsWalkOf, IsSameWalk};
+ghost use Rattle.region_cursor.specs.Cursor.{local_level_of, is_last_local as is_last_local_of, key_of, next_root, Fits, FitsSubtree, HasNoOrphan, IsCursor, IsRootKey, IsTileWord, IsWalkOf, IsSameWalk};
 ghost use Rattle.region_cursor.specs.Moves.{begun, over, next_level, level_after, passed, went_on, with_children, made, made_good, made_bad};
 ghost use Rattle.region_cursor.specs.Walked.{IsAt, IsNextKey, GivesStep};
 
@@ -107,7 +107,7 @@ impl CursorState {
         ensures unchanged { IfErr result (λ e. self.new ≡ self.old) }
         ensures same_words { IfErr result (λ e. words.new.items ≡ words.old.items) }
 
-        ensures scene { IfOk result (λ end. (s : Scene) (k : ℕ) → IsAt s self.old.region k self.old → outcome_seen outcome.now ≡ s.outcome (next_root self.old) → GivesStep s self.old.region k words.new.items end × IsAt s self.old.region (k + 1) self.new) }
+        ensures scene { IfOk result (λ end. (s : Scene) (k : ℕ) → IsAt s self.old.region k self.old → outcome_seen outcome.now ≡ s.outcome (next_root self.old) → HasNoOrphan outcome.now → GivesStep s self.old.region k words.new.items end × IsAt s self.old.region (k + 1) self.new) }
     {
         match outcome {
             Outcome::Good(subtree) => self.step_good(subtree, words),
