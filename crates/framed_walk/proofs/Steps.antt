@@ -11,10 +11,10 @@ use Rattle.implicit_tiling.specs.declared.Scheme.{Scheme}
 use Rattle.implicit_tiling.specs.Region.{Region}
 use Rattle.implicit_tiling.specs.Scene.{Layout, Scene}
 use Rattle.implicit_tiling.specs.Code.{IsWord, word_level}
-use Rattle.implicit_tiling.specs.Answer.{most_tiles}
+use Rattle.implicit_tiling.specs.Answer.{most_tiles, answer}
 use Rattle.implicit_tiling.specs.Nodes.{level_words, child_words}
-use Rattle.implicit_tiling.specs.Steps.{StepEnd, partial, Step, steps}
-use Rattle.tile_coords.specs.Ends.{end_seen}
+use Rattle.implicit_tiling.specs.Steps.{StepEnd, partial, ended, Step, steps}
+use Rattle.tile_coords.specs.Ends.{end_seen, EndsAtRoot}
 use Rattle.tile_coords.specs.declared.walk_end.WalkEnd.{WalkEnd}
 use Rattle.tile_coords.specs.declared.walk_end.WalkEnd.TheVariants.{Partial}
 use Rattle.walk_laws.specs.Stepped.{last_end}
@@ -26,6 +26,7 @@ use Rattle.region_cursor.specs.Moves.{over, level_after, pair_after, passed, end
 use Rattle.tile_walk.specs.Roots.{IsRootWord}
 use Rattle.tile_walk.specs.Plans.{IsRegionOf}
 use Rattle.tile_walk.specs.Walks.{tile_word, AreFound, IsAnswer}
+use Rattle.tile_walk.proofs.Words.{end_of_words}
 use Rattle.region_cursor.specs.Walked.{IsAt, IsNextKey, GivesStep}
 use Rattle.framed_walk.specs.Walked.{tiles_of_steps, HasWalked}
 
@@ -180,13 +181,16 @@ walked_on s region c after next later words more end last w gives stands key all
     one_more_by s region c after next later words more end last w (slice_get (steps s region) w.made) refl gives stands key all is
 
 -- a walk without a next key has the answer
-pub is_answer : (s : Scene) (region : Region) (c : Cursor) (words : List ℕ) (end : WalkEnd) → HasWalked s region c None words end → 1 ≤ s.layout.subtree_levels → IsRegionOf s.layout region
+pub is_answer : (s : Scene) (region : Region) (c : Cursor) (words : List ℕ) (end : WalkEnd) → HasWalked s region c None words end → EndsAtRoot s.layout.scheme end → 1 ≤ s.layout.subtree_levels → IsRegionOf s.layout region
     → IsAnswer s region words end
-is_answer s region c words end w some is =
+is_answer s region c words end w root some is =
     let all : take w.made (steps s region) ≡ steps s region = take_all w.made (steps s region) (omega (arith, w.next_is)) in
+    let end_is : end_seen s.layout.scheme end ≡ ended (answer s region).end =
+    w.end_is ∙ ap (last_end partial) all ∙ steps_end_as_the_answer s region some (omega (arith, is.below)) is.is_region in
     record {
       words_are = w.words_are ∙ ap (λ xs. map (tile_word s) (tiles_of_steps xs)) all ∙ ap (map (tile_word s)) (steps_have_the_tiles s region some);
-      end_is = w.end_is ∙ ap (last_end partial) all ∙ steps_end_as_the_answer s region some (omega (arith, is.below)) is.is_region;
+      end_is = end_is;
+      end_by_word = end_of_words s.layout.scheme end (answer s region).end root end_is;
     }
 
 pub leaves_after : (c after : Cursor) (found : Outcome) (key : ℕ) (words : List ℕ) → key_of c ≡ Some key → c.level ≤ c.region.level → after ≡ (made c found).after → words ≡ (made c found).words

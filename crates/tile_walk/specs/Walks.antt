@@ -12,7 +12,7 @@ use Rattle.walk_laws.specs.Children.{roots_below}
 use Rattle.walk_laws.specs.Pairs.{NoPairFaults, tiles_of_pairs}
 use Rattle.tile_coords.specs.declared.walk_end.WalkEnd.{WalkEnd}
 use Rattle.tile_coords.specs.declared.walk_end.WalkEnd.TheVariants.{Partial, Complete, TooMany, Fault}
-use Rattle.tile_coords.specs.Ends.{end_seen}
+use Rattle.tile_coords.specs.Ends.{end_seen, end_word}
 use Rattle.tile_walk.specs.Roots.{AreWords}
 
 -- the word of a tile with its contents, and those of the tiles of some pairs
@@ -90,3 +90,4 @@ pub record AreFound (scheme : Scheme) (words : List ℕ) : Type 0 where
 pub record IsAnswer (s : Scene) (region : Region) (words : List ℕ) (end : WalkEnd) : Type 0 where
   pub words_are : words ≡ map (tile_word s) (answer s region).tiles
   pub end_is : end_seen s.layout.scheme end ≡ ended (answer s region).end
+  pub end_by_word : end ≡ end_word s.layout.scheme (answer s region).end

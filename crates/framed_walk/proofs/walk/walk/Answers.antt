@@ -92,5 +92,5 @@ returns-clause-answer g c =
     (λ files. IsAnswer (scene_of files layout) region c.loop-next.words.items c.loop-next.end)
     (λ files w. is_answer (scene_of files layout) region c.loop-next.cursor c.loop-next.words.items c.loop-next.end
     (subst (λ (o : Option ℕ). HasWalked (scene_of files layout) region c.loop-next.cursor o c.loop-next.words.items c.loop-next.end) c.in_default.is w)
-    c.requires.of_layout.some_levels c.requires.region)
+    inv.end_is c.requires.of_layout.some_levels c.requires.region)
     inv.walked
