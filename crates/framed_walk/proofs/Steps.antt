@@ -11,10 +11,10 @@ use Rattle.implicit_tiling.specs.declared.Scheme.{Scheme}
 use Rattle.implicit_tiling.specs.Region.{Region}
 use Rattle.implicit_tiling.specs.Scene.{Layout, Scene}
 use Rattle.implicit_tiling.specs.Code.{IsWord, word_level, tile_word}
-use Rattle.implicit_tiling.specs.Answer.{most_tiles}
+use Rattle.implicit_tiling.specs.Answer.{most_tiles, answer}
 use Rattle.implicit_tiling.specs.Nodes.{level_words, child_words}
-use Rattle.implicit_tiling.specs.Steps.{StepEnd, partial, Step, steps}
-use Rattle.tile_coords.specs.Ends.{end_seen}
+use Rattle.implicit_tiling.specs.Steps.{StepEnd, partial, ended, Step, steps}
+use Rattle.tile_coords.specs.Ends.{end_seen, EndsAtRoot}
 use Rattle.tile_coords.specs.declared.walk_end.WalkEnd.{WalkEnd}
 use Rattle.tile_coords.specs.declared.walk_end.WalkEnd.TheVariants.{Partial}
 use Rattle.walk_laws.specs.Stepped.{last_end}
@@ -22,10 +22,11 @@ use Rattle.walk_laws.proofs.StepLaw.{steps_have_the_tiles, steps_end_as_the_answ
 use Rattle.tile_walk.specs.declared.outcome.Outcome.{Outcome}
 use Rattle.tile_walk.specs.declared.outcome.Outcome.TheVariants.{Good, Bad}
 use Rattle.region_cursor.specs.Cursor.{Cursor, IsWalkOf, IsRootKey, IsTileWord, key_of, local_level_of, is_last_local}
-use Rattle.region_cursor.specs.Moves.{over, level_after, pair_after, passed, end_by_key, room, counted, with_children, made_by, made_at, made}
+use Rattle.region_cursor.specs.Moves.{over, level_after, pair_after, passed, end_by_key, room, counted, with_children, made_by, made}
 use Rattle.tile_walk.specs.Roots.{IsRootWord}
 use Rattle.tile_walk.specs.Plans.{IsRegionOf}
 use Rattle.tile_walk.specs.Walks.{AreFound, IsAnswer}
+use Rattle.tile_walk.proofs.Words.{end_of_words}
 use Rattle.region_cursor.specs.Walked.{IsAt, IsNextKey, GivesStep}
 use Rattle.framed_walk.specs.Walked.{tiles_of_steps, HasWalked}
 
@@ -48,14 +49,10 @@ by_more : (more : Bool) (words : List ℕ) (c : Cursor) → (made_by more words 
 by_more true words c is none = cc
 by_more false words c is none = by_key (key_of (passed c)) is none
 
-by_level : (own : Bool) (c : Cursor) (number : ℕ) → (made_at own c number).end ≡ Partial → key_of (made_at own c number).after ≡ None → ⊥
-by_level true c number is none = cc
-by_level false c number is none = by_key (key_of (passed c)) is none
-
 pub not_partial : (c : Cursor) (found : Outcome) → (made c found).end ≡ Partial → key_of (made c found).after ≡ None → ⊥
 not_partial c (Good st) is none =
     by_more (nat_lt (room c) (length (level_words st c.region (local_level_of c)))) (take (room c) (level_words st c.region (local_level_of c))) _ is none
-not_partial c (Bad number) is none = by_level (local_level_of c == 0) c number is none
+not_partial c (Bad number) is none = cc
 
 -- the state after a step without its words: within the region, and lower
 pub record Falls (c after : Cursor) : Type 0 where
@@ -126,17 +123,13 @@ leaves_more c mid words more region level roots position count low h =
       | false ↦ leaves c mid (passed mid) words region level roots position count (falls_passed mid l p)
     ]
 
-leaves_bad : (c : Cursor) (own : Bool) (number : ℕ) → c.level ≤ c.region.level → c.position < length c.roots → Leaves c (made_at own c number).after (made_at own c number).words
-leaves_bad c true number low h = leaves c c (over c) [] refl refl refl refl (sym (add-zero c.count)) (falls_over c low h)
-leaves_bad c false number low h = leaves c c (passed c) [] refl refl refl refl (sym (add-zero c.count)) (falls_passed c low h)
-
 pub step_leaves : (c : Cursor) (found : Outcome) (key : ℕ) → key_of c ≡ Some key → c.level ≤ c.region.level → Leaves c (made c found).after (made c found).words
 step_leaves c (Good st) key at low =
     let all = level_words st c.region (local_level_of c) in
     let more = nat_lt (room c) (length all) in
     let words = take (room c) all in
     leaves_more c (counted words (with_children more c (child_words st c.region))) words more refl refl refl refl refl low (slice_get_within c.roots c.position key at)
-step_leaves c (Bad number) key at low = leaves_bad c (local_level_of c == 0) number low (slice_get_within c.roots c.position key at)
+step_leaves c (Bad number) key at low = leaves c c (over c) [] refl refl refl refl (sym (add-zero c.count)) (falls_over c low (slice_get_within c.roots c.position key at))
 
 -- the words that are found
 pub found_more : (scheme own : Scheme) (contents count : ℕ) (words more all : List ℕ) → AreFound scheme words → count ≡ length words → own ≡ scheme
@@ -188,13 +181,16 @@ walked_on s region c after next later words more end last w gives stands key all
     one_more_by s region c after next later words more end last w (slice_get (steps s region) w.made) refl gives stands key all is
 
 -- a walk without a next key has the answer
-pub is_answer : (s : Scene) (region : Region) (c : Cursor) (words : List ℕ) (end : WalkEnd) → HasWalked s region c None words end → 1 ≤ s.layout.subtree_levels → IsRegionOf s.layout region
+pub is_answer : (s : Scene) (region : Region) (c : Cursor) (words : List ℕ) (end : WalkEnd) → HasWalked s region c None words end → EndsAtRoot s.layout.scheme end → 1 ≤ s.layout.subtree_levels → IsRegionOf s.layout region
     → IsAnswer s region words end
-is_answer s region c words end w some is =
+is_answer s region c words end w root some is =
     let all : take w.made (steps s region) ≡ steps s region = take_all w.made (steps s region) (omega (arith, w.next_is)) in
+    let end_is : end_seen s.layout.scheme end ≡ ended (answer s region).end =
+    w.end_is ∙ ap (last_end partial) all ∙ steps_end_as_the_answer s region some (omega (arith, is.below)) is.is_region in
     record {
       words_are = w.words_are ∙ ap (λ xs. map (tile_word s) (tiles_of_steps xs)) all ∙ ap (map (tile_word s)) (steps_have_the_tiles s region some);
-      end_is = w.end_is ∙ ap (last_end partial) all ∙ steps_end_as_the_answer s region some (omega (arith, is.below)) is.is_region;
+      end_is = end_is;
+      end_by_word = end_of_words s.layout.scheme end (answer s region).end root end_is;
     }
 
 pub leaves_after : (c after : Cursor) (found : Outcome) (key : ℕ) (words : List ℕ) → key_of c ≡ Some key → c.level ≤ c.region.level → after ≡ (made c found).after → words ≡ (made c found).words

@@ -2,11 +2,12 @@
 ghost use Rattle.std.specs.Prelude.{◌≡◌, ◌≢◌, ◌≤◌, [], IfOk, IfErr, IfSome, Err};
 ghost use Rattle.implicit_tileset.specs.Scene.{scene_of};
 ghost use Rattle.scene_ports.specs.Counts.{Rose};
+ghost use Rattle.tile_coords.specs.Ends.{EndsAtRoot};
 ghost use Rattle.region_cursor.specs.Cursor.{IsWalkOf};
 ghost use Rattle.region_cursor.specs.Moves.{begun};
 ghost use Rattle.region_cursor.specs.Walked.{IsAt};
 ghost use Rattle.tile_walk.specs.Plans.{FitsLayout, IsRegionOf};
-ghost use Rattle.tile_walk.specs.Walks.{AreFound, EndsAtWord, IsAnswer};
+ghost use Rattle.tile_walk.specs.Walks.{AreFound, IsAnswer};
 ghost use Rattle.framed_walk.specs.Frames.{AreAtRest};
 
 use crate::frames::hold;
@@ -21,7 +22,7 @@ use tileset_json::Layout;
 /// The answer for a plan that fits the layout, over this many frames (1 to 1,024): `words` becomes the words of its tiles in
 /// key order, at most 65,536, and the end is that of the answer, so never Partial (OGC 22-025r4, implicit tiling:
 /// availability). Each root on the walk is read, once for each level that its subtree gives where no frame holds it any
-/// more. An Err leaves `words` as it was.
+/// more; a file that has a fault when it is read again ends the walk with it. An Err leaves `words` as it was.
 pub fn framed<S: FileSource>(
     alloc: Global,
     files: &mut S,
@@ -34,7 +35,7 @@ pub fn framed<S: FileSource>(
     requires frames { (1 ≤ frames) × (frames ≤ 1024) }
     ensures answer { IfSome (S.told files.old) (λ all. IfOk result (IsAnswer (scene_of all layout.now) plan.now.region words.new.items)) }
     ensures found { IfOk result (λ end. AreFound layout.now.scheme words.new.items) }
-    ensures end { IfOk result (EndsAtWord layout.now.scheme) }
+    ensures end { IfOk result (EndsAtRoot layout.now.scheme) }
     ensures over { IfOk result (λ end. end ≢ WalkEnd.Partial) }
     ensures unchanged { IfErr result (λ stop. words.new.items ≡ words.old.items) }
     ensures failed { result ≡ Err WalkStop.ReadFault → Rose (S.faults files.old) (S.faults files.new) }
@@ -66,7 +67,7 @@ fn walk<S: FileSource>(
     requires empty { words.old.items ≡ [] }
     ensures answer { IfSome (S.told files.old) (λ all. IfOk result (IsAnswer (scene_of all layout.now) cursor.old.region words.new.items)) }
     ensures found { IfOk result (λ end. AreFound layout.now.scheme words.new.items) }
-    ensures end { IfOk result (EndsAtWord layout.now.scheme) }
+    ensures end { IfOk result (EndsAtRoot layout.now.scheme) }
     ensures over { IfOk result (λ end. end ≢ WalkEnd.Partial) }
     ensures failed { result ≡ Err WalkStop.ReadFault → Rose (S.faults files.old) (S.faults files.new) }
     ensures later { S.faults files.old ≤ S.faults files.new }

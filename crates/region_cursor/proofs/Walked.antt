@@ -1,25 +1,24 @@
 -- A step from an outcome of a scene is the step of the walk over the scene.
-use Rattle.std.proofs.Common.{◌≡◌, ℕ, ◌+◌, ◌-◌, ◌%◌, ◌^◌, ◌<◌, ◌≤◌, Bool, true, false, List, [], ◌∷◌, ◌++◌, Option, Some, None, length, take, map, refl, sym, ap, subst, ◌∙◌, arith, append-nil, length-append}
-use Rattle.std.specs.Prelude.{◌&&◌, ◌==◌, nat_lt, slice_index, IsSome, IsSomeAnd, filter}
-use Rattle.std.specs.List.{flat_map}
+use Rattle.std.proofs.Common.{◌≡◌, ℕ, ◌+◌, ◌-◌, ◌%◌, ◌^◌, ◌<◌, ◌≤◌, Bool, true, false, List, [], ◌∷◌, ◌++◌, Option, Some, None, length, get_or, take, map, refl, sym, ap, subst, ◌∙◌, arith, append-nil, length-append, inl, inr}
+use Rattle.std.specs.Prelude.{◌&&◌, ◌==◌, nat_lt, slice_index, IsSome, IsSomeAnd}
+use Rattle.std.specs.List.{flat_map, range_with_len, Contains}
 use Rattle.std.proofs.lemmas.Nat.{mod_below}
-use Rattle.std.proofs.lemmas.Bool.{and_parts, ltb-true, ltb-false, lt-ltb, le-ltb, eqb-true, eqb-false, false_from_ne_true}
-use Rattle.std.proofs.lemmas.List.{take_more, take_all, take-map, map-append, length-map}
-use Rattle.std.proofs.lemmas.List.Elements.{All-push, All-same, All-nil}
+use Rattle.std.proofs.lemmas.Bool.{and_parts, ltb-true, ltb-false, lt-ltb, le-ltb, eqb-true, cases_eq}
+use Rattle.std.proofs.lemmas.List.{take_more, take_all, take-map, map-append, length-map, get_or-map}
+use Rattle.std.proofs.lemmas.List.Elements.{All-push, All-same, All-nil, All-contains, Contains-get_or, Contains-append_left, Contains-append_right}
 use Rattle.std.proofs.lemmas.Grind.{flat_map-append}
 use Rattle.std.proofs.lemmas.Option.{get_or_from_slice_get}
 use Rattle.implicit_tiling.specs.declared.Scheme.{Scheme}
 use Rattle.implicit_tiling.specs.Limits.{most_levels}
-use Rattle.implicit_tiling.specs.Tile.{Tile, IsTile, root}
-use Rattle.implicit_tiling.specs.Region.{Region, Plan, is_in}
+use Rattle.implicit_tiling.specs.Tile.{Tile, root}
+use Rattle.implicit_tiling.specs.Region.{Region, Plan}
 use Rattle.implicit_tiling.specs.Scene.{Layout, Scene, good, bad, fault_of}
-use Rattle.implicit_tiling.specs.Availability.{local_level, subtree_root, is_subtree_root, is_available, is_reached}
+use Rattle.implicit_tiling.specs.Availability.{local_level, is_subtree_root, is_reached}
 use Rattle.implicit_tiling.specs.Answer.{most_tiles, too_many, fault}
-use Rattle.implicit_tiling.specs.Subtree.{Subtree, IsSubtree, bits_of}
+use Rattle.implicit_tiling.specs.Subtree.{Subtree, IsSubtree, bits_of, has_orphan}
 use Rattle.implicit_tiling.specs.Code.{word, word_tile, tile_word}
 use Rattle.implicit_tiling.specs.Nodes.{level_words, child_words}
-use Rattle.implicit_tiling.specs.Steps.{pair_of, descendants, segment, pair_fault, last_or_not, ended, Step, step_then, steps, steps_from}
-use Rattle.tiling_laws.proofs.Available.{available_as_written}
+use Rattle.implicit_tiling.specs.Steps.{Pair, pair_of, walk_roots, segment, pair_fault, last_or_not, ended, Step, step_then, steps, steps_from}
 use Rattle.tile_coords.specs.Ends.{end_seen}
 use Rattle.tile_coords.specs.declared.walk_end.WalkEnd.{WalkEnd}
 use Rattle.tile_coords.specs.declared.walk_end.WalkEnd.TheVariants.{TooMany, Fault}
@@ -28,20 +27,17 @@ use Rattle.availability.proofs.Tiles.{tile_of_word}
 use Rattle.walk_laws.specs.Regions.{IsRegion}
 use Rattle.walk_laws.specs.Children.{roots_below}
 use Rattle.walk_laws.specs.Decoded.{IsDecoded}
-use Rattle.walk_laws.specs.Pairs.{tiles_of_pairs}
-use Rattle.walk_laws.proofs.Lists.{filter_none}
-use Rattle.walk_laws.proofs.Runs.{below, of_descendants}
-use Rattle.walk_laws.proofs.Segments.{local_low, below_root}
+use Rattle.walk_laws.specs.Pairs.{level_pairs, pairs_above, tiles_of_pairs}
+use Rattle.walk_laws.proofs.Segments.{local_low}
 use Rattle.walk_laws.proofs.Decoded.{node_words}
-use Rattle.walk_laws.proofs.Children.{no_root_below_a_fault}
 use Rattle.walk_laws.proofs.Regions.{roots_begin_at_the_root, accepted_is_a_region}
 use Rattle.walk_laws.proofs.WalkRoots.{child_words_are_root_words}
-use Rattle.walk_laws.proofs.Pairs.{fault_at_own_level, no_fault_below, no_fault_of_good}
+use Rattle.walk_laws.proofs.Pairs.{pairs_more, pairs_go_down, roots_of_inner_levels, fault_at_own_level, no_fault_of_good}
 use Rattle.tile_walk.specs.declared.outcome.Outcome.{Outcome}
 use Rattle.tile_walk.specs.declared.outcome.Outcome.TheVariants.{Good, Bad}
-use Rattle.region_cursor.specs.Cursor.{Cursor, local_level_of, is_last_local, key_of, next_root, FitsSubtree, Fits}
+use Rattle.region_cursor.specs.Cursor.{Cursor, local_level_of, is_last_local, key_of, next_root, FitsSubtree, Fits, HasNoOrphan}
 use Rattle.tile_walk.specs.Plans.{FitsLayout}
-use Rattle.region_cursor.specs.Moves.{begun, over, passed, end_by_key, Made, went_on, children_if, with_children, counted, room, made_by, made_good, made_at, made}
+use Rattle.region_cursor.specs.Moves.{begun, over, passed, end_by_key, Made, went_on, children_if, with_children, counted, room, made_by, made_good, made_bad, made}
 use Rattle.tile_walk.specs.Outcomes.{outcome_seen}
 use Rattle.region_cursor.specs.Walked.{root_word, pairs_done, found_below, IsUnderWay, IsAt, GivesStep}
 use Rattle.region_cursor.proofs.Places.{row, root_here, pair_here, rest_here, done_here, done_more, place_of_key, key_here, is_under_way, IsStep, step_here, root_is_on_walk}
@@ -77,7 +73,7 @@ step_by s region k c found cut x xs on h tells many is =
 -- a faulty root
 makes_fault : (s : Scene) (region : Region) (k : ℕ) (c : Cursor) (n : ℕ) → IsUnderWay s region k c → c.position < length (row s region c)
     → pair_fault s (pair_here s region c) ≡ Some n → word_tile s.layout.scheme (slice_index c.roots c.position) ≡ root_here s region c
-    → MakesStep s region k (made_at true c n)
+    → MakesStep s region k (made_bad c n)
 makes_fault s region k c n on h found same =
     let x : Step = record { tiles = []; end = ended (fault (root_here s region c) n) } in
     let is = step_by s region k c (Some n) (nat_lt most_tiles (c.count + length (tiles_here s region c))) x [] on h found refl refl in
@@ -214,8 +210,8 @@ subtree_root_is s region k c st on h fits is =
     ∙ tile_of_word s.layout.scheme r 0 (root_has_word s region k c on h) short
 
 is_decoded : (s : Scene) (region : Region) (k : ℕ) (c : Cursor) (st : Subtree) → IsUnderWay s region k c → c.position < length (row s region c)
-    → FitsSubtree c st → IsSubtree st → good (bits_of st) ≡ s.outcome (next_root c) → IsDecoded s st
-is_decoded s region k c st on h fits is same =
+    → FitsSubtree c st → has_orphan st ≡ false → IsSubtree st → good (bits_of st) ≡ s.outcome (next_root c) → IsDecoded s st
+is_decoded s region k c st on h fits whole is same =
     let here = subtree_root_is s region k c st on h fits is in
     record {
       within_limits = is;
@@ -226,7 +222,7 @@ is_decoded s region k c st on h fits is same =
         contents_named = omega (arith, fits.contents_named, on.of_scene.same_contents);
         root_at_start = sym (ap (λ n. st.root.level % n) on.of_scene.same_subtree_levels) ∙ fits.root_at_start;
       };
-      no_orphan = fits.no_orphan;
+      no_orphan = whole;
       same_bits = ap s.outcome (here ∙ sym (next_root_is s region k c on h)) ∙ sym same;
       reached = ap (is_reached s) here ∙ (root_is_on_walk s region c h).reached;
     }
@@ -237,10 +233,10 @@ record SubtreeHere (s : Scene) (region : Region) (c : Cursor) (st : Subtree) : T
   children : child_words st c.region ≡ map (root_word s) (roots_below s region (root_here s region c))
 
 subtree_here : (s : Scene) (region : Region) (k : ℕ) (c : Cursor) (st : Subtree) → IsUnderWay s region k c → c.position < length (row s region c)
-    → FitsSubtree c st → IsSubtree st → good (bits_of st) ≡ s.outcome (next_root c) → SubtreeHere s region c st
-subtree_here s region k c st on h fits is same =
+    → FitsSubtree c st → has_orphan st ≡ false → IsSubtree st → good (bits_of st) ≡ s.outcome (next_root c) → SubtreeHere s region c st
+subtree_here s region k c st on h fits whole is same =
     let here = subtree_root_is s region k c st on h fits is in
-    let decoded = is_decoded s region k c st on h fits is same in
+    let decoded = is_decoded s region k c st on h fits whole is same in
     let local = local_level_of c in
     let low : local < st.levels = omega (arith, local_is_low s region k c on, fits.same_levels, on.of_scene.same_subtree_levels) in
     let level : st.root.level + local ≡ c.level = omega (arith, level_here s region k c on h, ap (λ (t : Tile). t.level) here) in
@@ -281,44 +277,47 @@ makes_of s region k c st false on h is over =
     (all ∙ is.words)
 
 makes_good : (s : Scene) (region : Region) (k : ℕ) (c : Cursor) (st : Subtree) → IsUnderWay s region k c → c.position < length (row s region c)
-    → FitsSubtree c st → IsSubtree st → good (bits_of st) ≡ s.outcome (next_root c) → MakesStep s region k (made_good c st)
-makes_good s region k c st on h fits is same =
-    makes_of s region k c st (nat_lt (room c) (length (level_words st c.region (local_level_of c)))) on h (subtree_here s region k c st on h fits is same) refl
+    → FitsSubtree c st → has_orphan st ≡ false → IsSubtree st → good (bits_of st) ≡ s.outcome (next_root c) → MakesStep s region k (made_good c st)
+makes_good s region k c st on h fits whole is same =
+    makes_of s region k c st (nat_lt (room c) (length (level_words st c.region (local_level_of c)))) on h (subtree_here s region k c st on h fits whole is same) refl
 
--- a faulty file
-no_tiles_of_fault : (s : Scene) (region : Region) (r : Tile) (k n : ℕ) → IsTile s.layout.scheme r → r.level % s.layout.subtree_levels ≡ 0 → k < s.layout.subtree_levels
-    → s.outcome r ≡ bad n → filter (λ t. is_in region t && is_available s t) (descendants s.layout.scheme k r) ≡ []
-no_tiles_of_fault s region r k n tile start low faulty =
-    let kept : Tile → Bool = λ t. is_in region t && is_available s t in
-    filter_none kept (descendants s.layout.scheme k r) (of_descendants (λ t. kept t ≡ false) s.layout.scheme k r
-    (λ j h. let t = below s.layout.scheme k r j in
-    false_from_ne_true (kept t)
-    (λ both. let there = (available_as_written s t).0 (and_parts (is_in region t) (is_available s t) both).1 in
-    let told : fault_of (s.outcome (subtree_root s.layout t)) ≡ Some n = ap (λ (o : Tile). fault_of (s.outcome o)) (below_root s.layout k r j tile start low h) ∙ ap fault_of faulty in
-    cc (there.no_fault, told))))
-
-no_children : (last : Bool) (roots : List ℕ) → roots ≡ children_if last roots []
-no_children true roots = sym (append-nil roots)
-no_children false roots = refl
-
-makes_bad_at : (s : Scene) (region : Region) (k : ℕ) (c : Cursor) (n : ℕ) (first : Bool) → IsUnderWay s region k c → c.position < length (row s region c)
-    → s.outcome (root_here s region c) ≡ bad n → (local_level_of c == 0) ≡ first → MakesStep s region k (made_at first c n)
-makes_bad_at s region k c n true on h faulty at =
-    let own : c.level ≡ (root_here s region c).level = omega (arith, level_here s region k c on h, eqb-true (local_level_of c) 0 at) in
-    makes_fault s region k c n on h (fault_at_own_level s c.level (root_here s region c) own ∙ ap fault_of faulty) (root_of_key s region k c on h)
-makes_bad_at s region k c n false on h faulty at =
+-- below its own level a root on the walk has no faulty file: the pair of that level is done, and told no fault
+own_pair_told_none : (s : Scene) (region : Region) (k : ℕ) (c : Cursor) → IsUnderWay s region k c → c.position < length (row s region c) → (local_level_of c ≡ 0 → ⊥)
+    → pair_fault s (pair_of (root_here s region c).level (root_here s region c)) ≡ None
+own_pair_told_none s region k c on h inner =
     let r = root_here s region c in
-    let is = root_is_on_walk s region c h in
+    let l = r.level in
+    let local = local_level_of c in
     let level = level_here s region k c on h in
-    let inner = eqb-false (local_level_of c) 0 at in
-    let local : c.level - r.level ≡ local_level_of c = omega (arith, level) in
-    let none : tiles_here s region c ≡ [] =
-    ap (λ m. filter (λ t. is_in region t && is_available s t) (descendants s.layout.scheme m r)) local
-    ∙ no_tiles_of_fault s region r (local_level_of c) n is.tile (eqb-true (local_level s.layout r) 0 is.starts) (local_is_low s region k c on) faulty in
-    let nothing : [] ≡ map (root_word s) (roots_below s region r) = ap (map (root_word s)) (sym (no_root_below_a_fault s region r n on.of_scene.some_levels is.tile is.starts faulty)) in
-    let same : c.next_roots ≡ children_if (is_last_local c) c.next_roots [] = no_children (is_last_local c) c.next_roots in
-    makes_on s region k c [] c.count c.next_roots on h (no_fault_below s c.level r (λ e. inner (omega (arith, e, level))))
-    (omega (arith, ap length none)) on.few (same ∙ found_here s region k c [] on h nothing) (ap (map (tile_word s)) (sym none))
+    let start = eqb-true (local_level s.layout r) 0 (root_is_on_walk s region c h).starts in
+    let roots = walk_roots s region l in
+    let more : l + local ≡ c.level = omega (arith, level) in
+    let same : roots ≡ row s region c = sym (roots_of_inner_levels s region l local start (local_is_low s region k c on)) ∙ ap (walk_roots s region) more in
+    let own = level_pairs s region l in
+    let low : c.position < length roots = omega (arith, h, ap length same) in
+    let p = get_or own c.position (pair_of l root) in
+    let at : Contains own p = Contains-get_or own c.position (pair_of l root) (omega (arith, low, length-map roots (pair_of l))) in
+    let down : l + 1 + (local - 1) ≡ c.level = omega (arith, level, inner) in
+    let in_own : Contains (pairs_above s region (l + 1)) p = subst (λ ps. Contains ps p) (sym (pairs_go_down s region l)) (Contains-append_right (pairs_above s region l) own p at) in
+    let in_above : Contains (pairs_above s region c.level) p =
+    subst (λ m. Contains (pairs_above s region m) p) down (subst (λ ps. Contains ps p) (sym (pairs_more s region (l + 1) (local - 1)))
+    (Contains-append_left (pairs_above s region (l + 1)) (flat_map (level_pairs s region) (range_with_len (l + 1) (local - 1))) p in_own)) in
+    let in_done : Contains (done_here s region c) p = Contains-append_left (pairs_above s region c.level) (map (pair_of c.level) (take c.position (row s region c))) p in_above in
+    let is : p ≡ pair_of l r = get_or-map (pair_of l) roots c.position root (pair_of l root) low ∙ ap (λ ts. pair_of l (get_or ts c.position root)) same in
+    subst (λ q. pair_fault s q ≡ None) is (All-contains (λ q. pair_fault s q ≡ None) (done_here s region c) p on.no_fault in_done)
+
+-- so a faulty file is met at its root's own level
+makes_bad : (s : Scene) (region : Region) (k : ℕ) (c : Cursor) (n : ℕ) → IsUnderWay s region k c → c.position < length (row s region c)
+    → s.outcome (root_here s region c) ≡ bad n → MakesStep s region k (made_bad c n)
+makes_bad s region k c n on h faulty =
+    let r = root_here s region c in
+    let told : fault_of (s.outcome r) ≡ Some n = ap fault_of faulty in
+    elim (cases_eq (local_level_of c) 0) [
+      | inl start ↦ let own : c.level ≡ r.level = omega (arith, level_here s region k c on h, start) in
+          makes_fault s region k c n on h (fault_at_own_level s c.level r own ∙ told) (root_of_key s region k c on h)
+      | inr inner ↦ let none = own_pair_told_none s region k c on h inner in
+          let own = fault_at_own_level s r.level r refl in cc
+    ]
 
 -- the limits of an outcome's subtree
 abbrev pub HasLimits : Outcome → Type 0
@@ -326,15 +325,15 @@ HasLimits (Good st) = IsSubtree st
 HasLimits (Bad n) = Unit {0}
 
 makes_by : (s : Scene) (region : Region) (k : ℕ) (c : Cursor) (key : ℕ) (o : Outcome) → IsAt s region k c → key_of c ≡ Some key
-    → Fits c o → HasLimits o → outcome_seen o ≡ s.outcome (next_root c) → MakesStep s region k (made c o)
-makes_by s region k c key (Good st) is at fits limits same =
+    → Fits c o → HasNoOrphan o → HasLimits o → outcome_seen o ≡ s.outcome (next_root c) → MakesStep s region k (made c o)
+makes_by s region k c key (Good st) is at fits whole limits same =
     let on = is_under_way s region k c key is at in
-    makes_good s region k c st on (place_of_key s region k c key on at) fits limits same
-makes_by s region k c key (Bad n) is at fits limits same =
+    makes_good s region k c st on (place_of_key s region k c key on at) fits whole limits same
+makes_by s region k c key (Bad n) is at fits whole limits same =
     let on = is_under_way s region k c key is at in
     let h = place_of_key s region k c key on at in
     let faulty = ap s.outcome (sym (next_root_is s region k c on h)) ∙ sym same in
-    makes_bad_at s region k c n (local_level_of c == 0) on h faulty refl
+    makes_bad s region k c n on h faulty
 
 -- the step of any state at which there is a key
 some_key : (found : Option ℕ) → IsSome found → (key : ℕ) × (found ≡ Some key)
@@ -342,10 +341,10 @@ some_key (Some key) is = (key, refl)
 some_key None is = cc
 
 pub makes_step : (s : Scene) (region : Region) (k : ℕ) (c : Cursor) (o : Outcome) → IsAt s region k c → IsSome (key_of c)
-    → Fits c o → HasLimits o → outcome_seen o ≡ s.outcome (next_root c) → MakesStep s region k (made c o)
-makes_step s region k c o is some fits limits same =
+    → Fits c o → HasNoOrphan o → HasLimits o → outcome_seen o ≡ s.outcome (next_root c) → MakesStep s region k (made c o)
+makes_step s region k c o is some fits whole limits same =
     let key = some_key (key_of c) some in
-    makes_by s region k c key.0 o is key.1 fits limits same
+    makes_by s region k c key.0 o is key.1 fits whole limits same
 
 -- the beginning
 pub begins : (s : Scene) (region : Region) → 1 ≤ s.layout.subtree_levels → 1 ≤ s.layout.levels → s.layout.levels ≤ most_levels s.layout.scheme → IsRegion region
@@ -364,10 +363,10 @@ begins s region some some_levels few_levels is = record {
 -- a step as it was made
 pub makes_as_given : (s : Scene) (region : Region) (k : ℕ) (c : Cursor) (o : Outcome) (words : List ℕ) (end : WalkEnd) (after : Cursor)
     → words ≡ (made c o).words → end ≡ (made c o).end → after ≡ (made c o).after
-    → IsAt s region k c → IsSome (key_of c) → Fits c o → HasLimits o → outcome_seen o ≡ s.outcome (next_root c)
+    → IsAt s region k c → IsSome (key_of c) → Fits c o → HasNoOrphan o → HasLimits o → outcome_seen o ≡ s.outcome (next_root c)
     → GivesStep s region k words end × IsAt s region (k + 1) after
-makes_as_given s region k c o words end after words_are end_is after_is is some fits limits same =
-    let m = makes_step s region k c o is some fits limits same in (
+makes_as_given s region k c o words end after words_are end_is after_is is some fits whole limits same =
+    let m = makes_step s region k c o is some fits whole limits same in (
       subst (λ w. GivesStep s region k w end) (sym words_are) (subst (λ e. GivesStep s region k (made c o).words e) (sym end_is) m.given),
       subst (λ a. IsAt s region (k + 1) a) (sym after_is) m.after,
     )

@@ -21,7 +21,7 @@ use Rattle.availability.proofs.Masks.{mask_below}
 use Rattle.availability.proofs.Tiles.{word_is_word, mask_of_word, level_of_word}
 use Rattle.walk_laws.proofs.Decoded.{of_tiles_in}
 use Rattle.region_cursor.specs.Cursor.{Cursor, local_level_of, IsRootAt, IsTileWord, FitsSubtree}
-use Rattle.region_cursor.specs.Moves.{with_children, counted, room, made_by, made_good, made_at}
+use Rattle.region_cursor.specs.Moves.{with_children, counted, room, made_by, made_good}
 
 mask_is_named : (st : Subtree) (l m : ℕ) → contents_mask st l m < 2 ^ length st.contents
 mask_is_named st l m =
@@ -87,7 +87,3 @@ few_of_step c st few =
     let more = nat_lt (room c) (length found) in
     let words = take (room c) found in
     omega (arith, few, ap length (made_by_words more words (counted words (with_children more c (child_words st c.region)))), length-take (room c) found)
-
-pub no_words_of_fault : (first : Bool) (c : Cursor) (n : ℕ) → [] ≡ (made_at first c n).words
-no_words_of_fault true c n = refl
-no_words_of_fault false c n = refl

@@ -90,16 +90,20 @@ pub record IsSameWalk (old new : Cursor) : Type 0 where
   pub same_contents : new.contents ≡ old.contents
   pub same_region : new.region ≡ old.region
 
--- the subtree is one of the layout and of the root that the next step reads, and no node is an orphan
+-- the subtree is one of the layout and of the root that the next step reads
 pub record FitsSubtree (c : Cursor) (st : Subtree) : Type 0 where
   pub same_scheme : st.scheme ≡ c.scheme
   pub same_levels : st.levels ≡ c.subtree_levels
   pub same_cut : st.cut ≡ c.levels
   pub contents_named : length st.contents ≤ c.contents
   pub root_at_start : st.root.level % c.subtree_levels ≡ 0
-  pub no_orphan : has_orphan st ≡ false
   pub key : key_of c ≡ Some (word st.scheme st.root 0)
 
 abbrev pub Fits : Cursor → Outcome → Type 0
 Fits c (Good subtree) = FitsSubtree c subtree
 Fits c (Bad number) = Unit {0}
+
+-- no node of the subtree is an orphan, as in each file without a fault
+abbrev pub HasNoOrphan : Outcome → Type 0
+HasNoOrphan (Good subtree) = has_orphan subtree ≡ false
+HasNoOrphan (Bad number) = Unit {0}

@@ -92,13 +92,9 @@ made_of found c children =
 abbrev pub made_good : Cursor → Subtree → Made
 made_good c st = made_of (level_words st c.region (local_level_of c)) c (child_words st c.region)
 
--- a step of a faulty file: its fault ends the walk at the root's own level
-abbrev pub made_at : Bool → Cursor → ℕ → Made
-made_at true c number = record { words = []; end = Fault (slice_index c.roots c.position) number; after = over c }
-made_at false c number = went_on [] c
-
+-- a step of a faulty file: its fault ends the walk, at whichever local level it is met
 abbrev pub made_bad : Cursor → ℕ → Made
-made_bad c number = made_at (local_level_of c == 0) c number
+made_bad c number = record { words = []; end = Fault (slice_index c.roots c.position) number; after = over c }
 
 abbrev pub made : Cursor → Outcome → Made
 made c (Good subtree) = made_good c subtree

@@ -5,10 +5,10 @@ ghost use Rattle.implicit_tiling.specs.Scene.{Scene};
 ghost use Rattle.implicit_tiling.specs.Subtree.{IsSubtree};
 ghost use Rattle.implicit_tiling.specs.Answer.{most_tiles};
 ghost use Rattle.implicit_tiling.specs.Nodes.{child_words};
+ghost use Rattle.tile_coords.specs.Ends.{EndsAtRoot};
 ghost use Rattle.tile_walk.specs.Outcomes.{outcome_seen};
 ghost use Rattle.tile_walk.specs.Plans.{FitsLayout};
-ghost use Rattle.tile_walk.specs.Walks.{EndsAtWord};
-ghost use Rattle.region_cursor.specs.Cursor.{local_level_of, is_last_local as is_last_local_of, key_of, next_root, Fits, FitsSubtree, IsCursor, IsRootKey, IsTileWord, IsWalkOf, IsSameWalk};
+ghost use Rattle.region_cursor.specs.Cursor.{local_level_of, is_last_local as is_last_local_of, key_of, next_root, Fits, FitsSubtree, HasNoOrphan, IsCursor, IsRootKey, IsTileWord, IsWalkOf, IsSameWalk};
 ghost use Rattle.region_cursor.specs.Moves.{begun, over, next_level, level_after, passed, went_on, with_children, made, made_good, made_bad};
 ghost use Rattle.region_cursor.specs.Walked.{IsAt, IsNextKey, GivesStep};
 
@@ -89,8 +89,9 @@ impl CursorState {
     }
 
     /// Makes the next step from the outcome of the root of the next key: `words` becomes the tiles of one local level of
-    /// its subtree, or the first of them up to 65,536 in all with TooMany, or nothing with Fault where the file has one
-    /// and the level is the root's own. Memory is the one error; it leaves the walk and `words` as they were.
+    /// its subtree, or the first of them up to 65,536 in all with TooMany, or nothing with Fault where the outcome is Bad,
+    /// also below the root's own level: the file may have changed since it was read there. Memory is the one error; it
+    /// leaves the walk and `words` as they were.
     pub fn step(&mut self, outcome: &Outcome, words: &mut Vec<Word>) -> Result<WalkEnd, AllocError>
         requires key { IsSome (key_of self.old) }
         requires fits { Fits self.old outcome.now }
@@ -100,13 +101,13 @@ impl CursorState {
 
         ensures few { IfOk result (λ end. self.old.count + length words.new.items ≤ most_tiles) }
         ensures are_words { IfOk result (λ end. All (IsTileWord self.old.scheme self.old.contents) words.new.items) }
-        ensures root { IfOk result (EndsAtWord self.old.scheme) }
+        ensures root { IfOk result (EndsAtRoot self.old.scheme) }
         ensures same { IfOk result (λ end. IsSameWalk self.old self.new) }
 
         ensures unchanged { IfErr result (λ e. self.new ≡ self.old) }
         ensures same_words { IfErr result (λ e. words.new.items ≡ words.old.items) }
 
-        ensures scene { IfOk result (λ end. (s : Scene) (k : ℕ) → IsAt s self.old.region k self.old → outcome_seen outcome.now ≡ s.outcome (next_root self.old) → GivesStep s self.old.region k words.new.items end × IsAt s self.old.region (k + 1) self.new) }
+        ensures scene { IfOk result (λ end. (s : Scene) (k : ℕ) → IsAt s self.old.region k self.old → outcome_seen outcome.now ≡ s.outcome (next_root self.old) → HasNoOrphan outcome.now → GivesStep s self.old.region k words.new.items end × IsAt s self.old.region (k + 1) self.new) }
     {
         match outcome {
             Outcome::Good(subtree) => self.step_good(subtree, words),
@@ -147,17 +148,14 @@ impl CursorState {
         Ok(self.go_on())
     }
 
-    // Only at the root's own level a fault ends the walk; below it a faulty file has no tiles.
+    // A fault ends the walk at each local level.
     fn step_bad(&mut self, number: u64) -> WalkEnd
         requires key { IsSome (key_of self.old) }
         ensures end { result ≡ (made_bad self.old number).end }
         ensures after { self.new ≡ (made_bad self.old number).after }
         ensures given { self.old.count ≤ most_tiles }
-        ensures root { EndsAtWord self.old.scheme result }
+        ensures root { EndsAtRoot self.old.scheme result }
     {
-        if self.local_level() != 0 {
-            return self.go_on();
-        }
         let root = self.roots[self.position];
         self.finish();
         WalkEnd::Fault { root, number }

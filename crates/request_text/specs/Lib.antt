@@ -1,4 +1,3 @@
-pub mod Ends
 pub mod Fields
 pub mod Found
 pub mod Laws

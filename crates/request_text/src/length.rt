@@ -5,9 +5,8 @@ ghost use Rattle.std.specs.Fmt.{decimal};
 ghost use Rattle.implicit_tiling.specs.Code.{IsWord, word_tile};
 ghost use Rattle.implicit_tiling.specs.Answer.{fault, most_tiles};
 ghost use Rattle.implicit_tiling.specs.Text.{coordinates, contents_from, tile_line, word_line, words_text, end_line, step_end_line};
-ghost use Rattle.tile_coords.specs.Ends.{end_seen};
+ghost use Rattle.tile_coords.specs.Ends.{end_seen, EndsAtRoot};
 ghost use Rattle.request_text.specs.Fields.{joined, after_tab};
-ghost use Rattle.request_text.specs.Ends.{HasWord};
 
 use availability::{WordTile, tile_of};
 use itoa::Buffer;
@@ -18,7 +17,7 @@ use uri_template::Template;
 /// The length in bytes of the text that `write_answer` gives. It takes no memory.
 pub fn answer_length(layout: &Layout, words: &[Word], end: WalkEnd) -> u64
     requires words { All (IsWord layout.now.scheme) words.now }
-    requires root { HasWord layout.now.scheme end }
+    requires root { EndsAtRoot layout.now.scheme end }
     requires few { length words.now ≤ most_tiles }
     ensures { result ≡ length (words_text layout.now words.now (end_seen layout.now.scheme end)) }
 {
@@ -52,7 +51,7 @@ fn length_of_tile(layout: &Layout, tile: &Tile, mask: u8) -> u64
 
 // The length of the end line of so many tiles.
 fn length_of_end(scheme: Scheme, count: usize, end: WalkEnd) -> u64
-    requires { HasWord scheme end }
+    requires { EndsAtRoot scheme end }
     ensures length { result ≡ length (step_end_line scheme count (end_seen scheme end)) }
     ensures short { result ≤ 200 }
 {

@@ -2,7 +2,7 @@
 ghost use Rattle.std.specs.Prelude.{◌≤◌, IfOk, IsTrue, vec_len};
 ghost use Rattle.std.specs.List.{All};
 ghost use Rattle.implicit_tiling.specs.Code.{IsWord};
-ghost use Rattle.request_text.specs.Ends.{HasWord};
+ghost use Rattle.tile_coords.specs.Ends.{EndsAtRoot};
 
 use crate::{
     answer_length, is_coordinates, is_number, parse_line, write_answer, write_check, write_made,
@@ -116,11 +116,14 @@ fn have_words(scheme: Scheme, found: &[FoundFault]) -> bool
         .all(|fault| tile_of(scheme, fault.root).is_some())
 }
 
-fn has_word(scheme: Scheme, end: WalkEnd) -> bool
-    ensures { IsTrue result → HasWord scheme end }
+fn ends_at_root(scheme: Scheme, end: WalkEnd) -> bool
+    ensures { IsTrue result → EndsAtRoot scheme end }
 {
     match end {
-        WalkEnd::Fault { root, .. } => tile_of(scheme, root).is_some(),
+        WalkEnd::Fault { root, .. } => match tile_of(scheme, root) {
+            Some(found) => found.mask == 0,
+            None => false,
+        },
         _ => true,
     }
 }
@@ -139,14 +142,14 @@ fn answer_to(
     end: WalkEnd,
     link: &mut MemoryLink,
 ) -> Option<Result<(), GiveFault>> {
-    if !are_words(layout.scheme, words) || !has_word(layout.scheme, end) {
+    if !are_words(layout.scheme, words) || !ends_at_root(layout.scheme, end) {
         return None;
     }
     Some(write_answer(alloc, layout, words, end, link))
 }
 
 fn length_of(layout: &Layout, words: &[Word], end: WalkEnd) -> Option<u64> {
-    if !are_words(layout.scheme, words) || !has_word(layout.scheme, end) || words.len() > 65536 {
+    if !are_words(layout.scheme, words) || !ends_at_root(layout.scheme, end) || words.len() > 65536 {
         return None;
     }
     Some(answer_length(layout, words, end))

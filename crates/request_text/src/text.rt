@@ -7,11 +7,10 @@ ghost use Rattle.implicit_tiling.specs.Code.{IsWord, word_tile};
 ghost use Rattle.implicit_tiling.specs.Answer.{fault};
 ghost use Rattle.implicit_tiling.specs.Template.{filled};
 ghost use Rattle.implicit_tiling.specs.Text.{coordinates, contents_from, tile_line, word_line, words_text, end_line, step_end_line, refused_text};
-ghost use Rattle.tile_coords.specs.Ends.{end_seen};
+ghost use Rattle.tile_coords.specs.Ends.{end_seen, EndsAtRoot};
 ghost use Rattle.scene_ports.specs.Counts.{Rose};
 ghost use Rattle.scene_ports.specs.Output.{GivesFront};
 ghost use Rattle.request_text.specs.Fields.{joined, after_tab};
-ghost use Rattle.request_text.specs.Ends.{HasWord};
 
 use crate::fields::{push_coordinates, push_count, push_field, push_number, push_place};
 use availability::{WordTile, tile_of};
@@ -31,7 +30,7 @@ pub fn write_answer<O: Outlet>(
     out: &mut O,
 ) -> Result<(), GiveFault>
     requires words { All (IsWord layout.now.scheme) words.now }
-    requires root { HasWord layout.now.scheme end }
+    requires root { EndsAtRoot layout.now.scheme end }
     ensures given { OnOk result (Appends (O.given out.old) (O.given out.new) (words_text layout.now words.now (end_seen layout.now.scheme end))) }
     ensures front { GivesFront (O.given out.old) (O.given out.new) (words_text layout.now words.now (end_seen layout.now.scheme end)) }
     ensures failed { result ≡ Err GiveFault.WriteFault → Rose (O.faults out.old) (O.faults out.new) }
@@ -102,7 +101,7 @@ fn push_end_line(
     end: WalkEnd,
     piece: &mut String,
 ) -> Result<(), AllocError>
-    requires { HasWord scheme end }
+    requires { EndsAtRoot scheme end }
     ensures { OnOk result (string_bytes piece.new ≡ string_bytes piece.old ++ step_end_line scheme count (end_seen scheme end)) }
 {
     match end {

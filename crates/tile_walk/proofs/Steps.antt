@@ -1,10 +1,9 @@
 -- One step of a walk, by what is read of its root.
 use Rattle.std.proofs.Common.{◌≡◌, ℕ, ◌+◌, ◌-◌, ◌%◌, ◌<◌, ◌≤◌, Bool, true, false, List, [], ◌∷◌, ◌++◌, length, map, take, get_or, Some, None, refl, sym, ap, subst, ◌∙◌, arith, append-nil, length-append, inl, inr}
-use Rattle.std.proofs.lemmas.Bool.{cases_eq}
+use Rattle.std.proofs.lemmas.Bool.{cases_eq, eqb-true, and_parts}
 use Rattle.std.specs.Prelude.{◌==◌}
 use Rattle.std.proofs.lemmas.List.{length-take, map-append}
 use Rattle.std.proofs.Math.Seq.{take-append-add}
-use Rattle.std.proofs.lemmas.Bool.{eqb-true, and_parts}
 use Rattle.std.proofs.lemmas.List.Elements.{All-append, All-take, All-nil, All-cons}
 use Rattle.implicit_tiling.specs.declared.Scheme.{Scheme}
 use Rattle.implicit_tiling.specs.Tile.{Tile}
@@ -27,10 +26,11 @@ use Rattle.walk_laws.proofs.Segments.{local_low}
 use Rattle.walk_laws.proofs.Pairs.{fault_at_own_level, no_fault_of_good}
 use Rattle.tile_coords.specs.declared.walk_end.WalkEnd.{WalkEnd}
 use Rattle.tile_coords.specs.declared.walk_end.WalkEnd.TheVariants.{Partial, Complete, TooMany, Fault}
+use Rattle.tile_coords.specs.Ends.{EndsAtRoot}
 use Rattle.tile_walk.specs.Appended.{Appends, if_last_words}
 use Rattle.tile_walk.specs.Roots.{IsRootWord, AreRoots, AreWords}
 use Rattle.tile_walk.specs.Outcomes.{IsFoundAt}
-use Rattle.tile_walk.specs.Walks.{pair_words, word_pair, Walks, if_last, next_roots, AreFound, IsWalked, EndsAtWord}
+use Rattle.tile_walk.specs.Walks.{pair_words, word_pair, Walks, if_last, next_roots, AreFound, IsWalked}
 use Rattle.tile_walk.proofs.Words.{child_tiles}
 
 -- the words of a local level are words
@@ -93,7 +93,7 @@ roots_after layout st region level local before after roots next TooMany limits 
 roots_after layout st region level local before after roots next (Fault root n) limits of some at is found = absurd is
 
 pub ends_after : (scheme : Scheme) (st : Subtree) (region : Region) (local : ℕ) (before after roots next : List ℕ) (end : WalkEnd)
-    → Appends st region local before after roots next end → EndsAtWord scheme end
+    → Appends st region local before after roots next end → EndsAtRoot scheme end
 ends_after scheme st region local before after roots next Partial is = tt
 ends_after scheme st region local before after roots next Complete is = absurd is
 ends_after scheme st region local before after roots next TooMany is = tt

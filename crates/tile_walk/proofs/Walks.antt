@@ -17,6 +17,8 @@ use Rattle.walk_laws.proofs.PairAnswers.{answer_is_complete, answer_stops_at_a_f
 use Rattle.tile_coords.specs.declared.walk_end.WalkEnd.{WalkEnd}
 use Rattle.tile_coords.specs.declared.walk_end.WalkEnd.TheVariants.{Partial, Complete, TooMany, Fault}
 use Rattle.tile_walk.specs.Walks.{pair_words, word_pair, Walks, GoesOn, IsAnswer}
+use Rattle.tile_coords.specs.Ends.{end_seen, end_word, EndsAtRoot}
+use Rattle.tile_walk.proofs.Words.{end_of_words}
 
 pub pair_words-append : (s : Scene) (region : Region) (ps qs : List Pair) → pair_words s region (ps ++ qs) ≡ pair_words s region ps ++ pair_words s region qs
 pair_words-append s region ps qs =
@@ -145,31 +147,35 @@ complete_answer s region words some on =
     record {
       words_are = answer_at s region words _ a on.words;
       end_is = ap (λ (b : Answer). ended b.end) (sym a);
+      end_by_word = ap (λ (b : Answer). end_word s.layout.scheme b.end) (sym a);
     }
 
-pub ended_answer : (s : Scene) (region : Region) (words : List ℕ) (end : WalkEnd) → 1 ≤ s.layout.subtree_levels → end ≢ Partial → Walks s region (pairs s region) [] words end
+pub ended_answer : (s : Scene) (region : Region) (words : List ℕ) (end : WalkEnd) → 1 ≤ s.layout.subtree_levels → end ≢ Partial → EndsAtRoot s.layout.scheme end → Walks s region (pairs s region) [] words end
     → IsAnswer s region words end
-ended_answer s region words Partial some over is = absurd (over refl)
-ended_answer s region words Complete some over is = absurd is
-ended_answer s region words TooMany some over is =
+ended_answer s region words Partial some over root is = absurd (over refl)
+ended_answer s region words Complete some over root is = absurd is
+ended_answer s region words TooMany some over root is =
     let many : most_tiles < length (tiles_of_pairs s region is.done) = omega (arith, is.many, length-map (tiles_of_pairs s region is.done) (tile_word s)) in
     let a = answer_is_cut s region is.done is.rest some is.parts is.no_fault many in
     record {
       words_are = answer_at s region words _ a (is.words ∙ take-map (tile_word s) most_tiles (tiles_of_pairs s region is.done));
       end_is = ap (λ (b : Answer). ended b.end) (sym a);
+      end_by_word = ap (λ (b : Answer). end_word s.layout.scheme b.end) (sym a);
     }
-ended_answer s region words (Fault root n) some over is =
+ended_answer s region words (Fault w n) some over root is =
     let a = answer_stops_at_a_fault s region is.done is.pair is.rest n some is.parts is.no_fault is.fault (few_tiles s region is.done words is.words is.few) in
+    let end_is : end_seen s.layout.scheme (Fault w n) ≡ ended (answer s region).end = ap (λ t. ended (fault t n)) is.at_root ∙ ap (λ (b : Answer). ended b.end) (sym a) in
     record {
       words_are = answer_at s region words _ a is.words;
-      end_is = ap (λ t. ended (fault t n)) is.at_root ∙ ap (λ (b : Answer). ended b.end) (sym a);
+      end_is = end_is;
+      end_by_word = end_of_words s.layout.scheme (Fault w n) (answer s region).end root end_is;
     }
 
 -- a walk that has ended at a level
 pub answer_at_level : (s : Scene) (region : Region) (level : ℕ) (words : List ℕ) (end : WalkEnd) → 1 ≤ s.layout.subtree_levels → level ≤ region.level → end ≢ Partial
-    → Walks s region (pairs_above s region (level + 1)) [] words end → IsAnswer s region words end
-answer_at_level s region level words end some low over is =
+    → EndsAtRoot s.layout.scheme end → Walks s region (pairs_above s region (level + 1)) [] words end → IsAnswer s region words end
+answer_at_level s region level words end some low over root is =
     let P : List Pair → Type 0 = λ ps. Walks s region ps [] words end in
     let rest = flat_map (level_pairs s region) (range_with_len (level + 1) (region.level + 1 - (level + 1))) in
-    ended_answer s region words end some over
+    ended_answer s region words end some over root
     (subst P (sym (pairs_above_come_first s region (level + 1) (omega (arith, low)))) (walks_no_more s region (pairs_above s region (level + 1)) rest [] words end over is))

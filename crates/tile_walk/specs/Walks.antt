@@ -4,14 +4,15 @@ use Rattle.implicit_tiling.specs.declared.Scheme.{Scheme}
 use Rattle.implicit_tiling.specs.Tile.{Tile}
 use Rattle.implicit_tiling.specs.Region.{Region}
 use Rattle.implicit_tiling.specs.Scene.{Layout, Scene, fault_of}
-use Rattle.implicit_tiling.specs.Code.{tile_word, word_tile, IsWord}
+use Rattle.implicit_tiling.specs.Code.{tile_word, word_tile, IsWord, word}
+use Rattle.implicit_tiling.specs.Availability.{mask}
 use Rattle.implicit_tiling.specs.Answer.{is_on_walk, most_tiles, answer}
 use Rattle.implicit_tiling.specs.Steps.{Pair, pair_of, pair_fault, ended}
 use Rattle.walk_laws.specs.Children.{roots_below}
 use Rattle.walk_laws.specs.Pairs.{NoPairFaults, tiles_of_pairs}
 use Rattle.tile_coords.specs.declared.walk_end.WalkEnd.{WalkEnd}
 use Rattle.tile_coords.specs.declared.walk_end.WalkEnd.TheVariants.{Partial, Complete, TooMany, Fault}
-use Rattle.tile_coords.specs.Ends.{end_seen}
+use Rattle.tile_coords.specs.Ends.{end_seen, end_word}
 use Rattle.tile_walk.specs.Roots.{AreWords}
 
 -- the words of the tiles of some pairs
@@ -77,13 +78,6 @@ pub record IsWalked (s : Scene) (region : Region) (level w : ℕ) : Type 0 where
   pub on_walk : is_on_walk s region (word_tile s.layout.scheme w) ≡ true
   pub no_fault : (level % s.layout.subtree_levels ≡ 0 → ⊥) → fault_of (s.outcome (word_tile s.layout.scheme w)) ≡ None
 
--- the root of an end is a word
-abbrev pub EndsAtWord : Scheme → WalkEnd → Type 0
-EndsAtWord scheme Partial = Unit {0}
-EndsAtWord scheme Complete = Unit {0}
-EndsAtWord scheme TooMany = Unit {0}
-EndsAtWord scheme (Fault root n) = IsWord scheme root
-
 -- what a walk of any source has found, also of one that doesn't tell its files
 pub record AreFound (scheme : Scheme) (words : List ℕ) : Type 0 where
   pub are_words : AreWords scheme words
@@ -93,3 +87,4 @@ pub record AreFound (scheme : Scheme) (words : List ℕ) : Type 0 where
 pub record IsAnswer (s : Scene) (region : Region) (words : List ℕ) (end : WalkEnd) : Type 0 where
   pub words_are : words ≡ map (tile_word s) (answer s region).tiles
   pub end_is : end_seen s.layout.scheme end ≡ ended (answer s region).end
+  pub end_by_word : end ≡ end_word s.layout.scheme (answer s region).end

@@ -4,8 +4,9 @@ ghost use Rattle.implicit_tiling.specs.Tile.{root};
 ghost use Rattle.implicit_tiling.specs.Code.{word};
 ghost use Rattle.implicit_tileset.specs.Scene.{scene_of};
 ghost use Rattle.scene_ports.specs.Counts.{Rose};
+ghost use Rattle.tile_coords.specs.Ends.{EndsAtRoot};
 ghost use Rattle.tile_walk.specs.Plans.{FitsLayout, IsRegionOf};
-ghost use Rattle.tile_walk.specs.Walks.{AreFound, EndsAtWord, IsAnswer, frontier_if, is_last};
+ghost use Rattle.tile_walk.specs.Walks.{AreFound, IsAnswer, frontier_if, is_last};
 
 use crate::level::walk_level;
 use crate::outcome::WalkStop;
@@ -29,7 +30,7 @@ pub fn fresh<S: FileSource>(
     requires { FitsLayout layout.now plan.now }
     ensures answer { IfSome (S.told files.old) (λ all. IfOk result (IsAnswer (scene_of all layout.now) plan.now.region words.new.items)) }
     ensures found { IfOk result (λ end. AreFound layout.now.scheme words.new.items) }
-    ensures end { IfOk result (EndsAtWord layout.now.scheme) }
+    ensures end { IfOk result (EndsAtRoot layout.now.scheme) }
     ensures over { IfOk result (λ end. end ≢ WalkEnd.Partial) }
     ensures unchanged { IfErr result (λ stop. words.new.items ≡ words.old.items) }
     ensures failed { result ≡ Err WalkStop.ReadFault → Rose (S.faults files.old) (S.faults files.new) }
@@ -54,7 +55,7 @@ fn walk<S: FileSource>(
     requires empty { words.old.items ≡ [] }
     ensures answer { IfSome (S.told files.old) (λ all. IfOk result (IsAnswer (scene_of all layout.now) region.now words.new.items)) }
     ensures found { IfOk result (λ end. AreFound layout.now.scheme words.new.items) }
-    ensures end { IfOk result (EndsAtWord layout.now.scheme) }
+    ensures end { IfOk result (EndsAtRoot layout.now.scheme) }
     ensures over { IfOk result (λ end. end ≢ WalkEnd.Partial) }
     ensures failed { result ≡ Err WalkStop.ReadFault → Rose (S.faults files.old) (S.faults files.new) }
     ensures later { S.faults files.old ≤ S.faults files.new }

@@ -6,10 +6,11 @@ ghost use Rattle.implicit_tiling.specs.Subtree.{IsSubtree};
 ghost use Rattle.implicit_tiling.specs.Steps.{root_level};
 ghost use Rattle.implicit_tileset.specs.Scene.{scene_of};
 ghost use Rattle.scene_ports.specs.Counts.{Rose};
+ghost use Rattle.tile_coords.specs.Ends.{EndsAtRoot};
 ghost use Rattle.tile_walk.specs.Appended.{Appends};
 ghost use Rattle.tile_walk.specs.Roots.{IsRootWord, AreRoots};
 ghost use Rattle.implicit_tiling.specs.Availability.{IsRootOf};
-ghost use Rattle.tile_walk.specs.Walks.{Walks, word_pair, next_roots, AreFound, IsWalked, EndsAtWord};
+ghost use Rattle.tile_walk.specs.Walks.{Walks, word_pair, next_roots, AreFound, IsWalked};
 
 use crate::outcome::{Outcome, WalkStop, read_subtree};
 use availability::{Subtree, tile_of};
@@ -43,7 +44,7 @@ pub(crate) fn step<S: FileSource>(
     ensures roots { IfSome (S.told files.old) (λ all. IfOk result (λ end. end ≡ WalkEnd.Partial → map (word_tile layout.now.scheme) next.new.items ≡ map (word_tile layout.now.scheme) next.old.items ++ next_roots (scene_of all layout.now) region.now level (word_tile layout.now.scheme root))) }
     ensures found { IfOk result (λ end. AreFound layout.now.scheme words.new.items) }
     ensures next { IfOk result (λ end. AreRoots layout.now (level + 1) next.new.items) }
-    ensures end { IfOk result (EndsAtWord layout.now.scheme) }
+    ensures end { IfOk result (EndsAtRoot layout.now.scheme) }
     ensures failed { result ≡ Err WalkStop.ReadFault → Rose (S.faults files.old) (S.faults files.new) }
     ensures later { S.faults files.old ≤ S.faults files.new }
     ensures same { S.told files.new ≡ S.told files.old }

@@ -6,8 +6,9 @@ use Rattle.implicit_tiling.specs.Code.{word_tile}
 use Rattle.implicit_tileset.specs.Scene.{scene_of}
 use Rattle.region_cursor.specs.Cursor.{IsRootKey, key_of, next_root}
 use Rattle.tile_walk.specs.Outcomes.{outcome_seen}
-use Rattle.tile_walk.specs.Walks.{EndsAtWord, IsAnswer}
-use Rattle.region_cursor.proofs.Callers.{walk_stays, next_root_of_key, outcome_fits}
+use Rattle.tile_coords.specs.Ends.{EndsAtRoot}
+use Rattle.tile_walk.specs.Walks.{IsAnswer}
+use Rattle.region_cursor.proofs.Callers.{walk_stays, next_root_of_key, outcome_fits, read_whole}
 use Rattle.tile_walk.proofs.Reading.{of_told, both_told}
 use Rattle.framed_walk.specs.Frames.{IsHeld}
 use Rattle.framed_walk.specs.Walked.{HasWalked}
@@ -49,6 +50,7 @@ loop-next-preserved g c =
     let left = leaves_after cursor after c.look.result.now c.in-Some.key more at inv.within c.in_ok-end.ensures.after c.in_ok-end.ensures.words in
     let stays = walk_stays layout region cursor after inv.of_layout c.in_ok-end.ensures.same in
     let is : all ≡ words ++ more = subst (λ (ws : List ℕ). all ≡ words ++ ws) c.deref.ensures.value c.in_ok-extend_from_slice.ensures.items in
+    let whole = read_whole layout (word_tile layout.scheme c.in-Some.key) c.look.result.now outcome.read in
     let root_is : next_root cursor ≡ word_tile layout.scheme c.in-Some.key =
     next_root_of_key cursor c.in-Some.key at ∙ ap (λ (e : Scheme). word_tile e c.in-Some.key) inv.of_layout.same_scheme in
     record {
@@ -61,7 +63,7 @@ loop-next-preserved g c =
       few = c.next_key-next-in-Some.ensures.few;
       found = found_more layout.scheme cursor.scheme cursor.contents cursor.count words more all inv.found inv.count inv.of_layout.same_scheme
           c.in_ok-end.ensures.are_words c.in_ok-end.ensures.few is;
-      end_is = subst (λ (e : Scheme). EndsAtWord e c.in_ok-end.end) inv.of_layout.same_scheme c.in_ok-end.ensures.root;
+      end_is = subst (λ (e : Scheme). EndsAtRoot e c.in_ok-end.end) inv.of_layout.same_scheme c.in_ok-end.ensures.root;
       over = λ none partial. not_partial cursor c.look.result.now (sym c.in_ok-end.ensures.end ∙ partial)
           (ap key_of (sym c.in_ok-end.ensures.after) ∙ sym c.next_key-next-in-Some.ensures.key ∙ none);
       walked =
@@ -73,7 +75,7 @@ loop-next-preserved g c =
           let s = scene_of files layout in
           let read : outcome_seen c.look.result.now ≡ s.outcome (next_root cursor) = sym o ∙ ap s.outcome (sym root_is) in
           goes_on s region cursor after c.loop-next.next c.next_key-next-in-Some.result words more all c.loop-next.end c.in_ok-end.end inv.of_layout.same_region stays.same_region
-          (λ k stands. c.in_ok-end.ensures.scene s k stands read)
+          (λ k stands. c.in_ok-end.ensures.scene s k stands read whole)
           (λ k stands. c.next_key-next-in-Some.ensures.scene s k stands) is w)
           inv.walked outcome.of_scene;
       later = search rules;
@@ -90,5 +92,5 @@ returns-clause-answer g c =
     (λ files. IsAnswer (scene_of files layout) region c.loop-next.words.items c.loop-next.end)
     (λ files w. is_answer (scene_of files layout) region c.loop-next.cursor c.loop-next.words.items c.loop-next.end
     (subst (λ (o : Option ℕ). HasWalked (scene_of files layout) region c.loop-next.cursor o c.loop-next.words.items c.loop-next.end) c.in_default.is w)
-    c.requires.of_layout.some_levels c.requires.region)
+    inv.end_is c.requires.of_layout.some_levels c.requires.region)
     inv.walked

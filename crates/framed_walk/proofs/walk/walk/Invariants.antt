@@ -3,7 +3,8 @@ use Rattle.std.specs.Prelude.{IfSome, ◌≢◌}
 use Rattle.implicit_tileset.specs.Scene.{scene_of}
 use Rattle.tile_coords.specs.declared.walk_end.WalkEnd.TheVariants.{Partial}
 use Rattle.region_cursor.specs.Cursor.{IsWalkOf, IsRootKey, key_of}
-use Rattle.tile_walk.specs.Walks.{AreFound, EndsAtWord}
+use Rattle.tile_coords.specs.Ends.{EndsAtRoot}
+use Rattle.tile_walk.specs.Walks.{AreFound}
 use Rattle.framed_walk.specs.Frames.{AreAtRest}
 use Rattle.framed_walk.specs.Walked.{HasWalked}
 use Rattle.framed_walk.proofs.walk.walk.Given as goal
@@ -18,7 +19,7 @@ invariant-loop-next g l = record {
   root : IfSome l.next (IsRootKey l.cursor);
   few : length l.cursor.roots < 2 ^ 64;
   found : AreFound l.fn.layout.scheme l.words.items;
-  end_is : EndsAtWord l.fn.layout.scheme l.end;
+  end_is : EndsAtRoot l.fn.layout.scheme l.end;
   over : l.next ≡ None → l.end ≢ Partial;
   walked : IfSome (g.S.FileSource.told l.fn.files) (λ all. HasWalked (scene_of all l.fn.layout) l.fn.cursor.region l.cursor l.next l.words.items l.end);
   later : g.S.FileSource.faults l.fn.files ≤ g.S.FileSource.faults l.files;

@@ -61,7 +61,7 @@ returns-in_default-clause-answer g c =
     (λ all. Walks (scene_of all layout) region (map (word_pair layout.scheme c.loop-level.level) c.deref.result.now) c.loop-level.words.items c.walk_level.new.words.items c.in_ok-end.end) _
     (λ all at is. let s = scene_of all layout in
     let P : List ℕ → Type 0 = λ ws. Walks s region (map (word_pair layout.scheme c.loop-level.level) ws) c.loop-level.words.items c.walk_level.new.words.items c.in_ok-end.end in
-    answer_at_level s region c.loop-level.level c.walk_level.new.words.items c.in_ok-end.end some low c.in_default.not-Partial
+    answer_at_level s region c.loop-level.level c.walk_level.new.words.items c.in_ok-end.end some low c.in_default.not-Partial c.in_ok-end.ensures.end
     (one_level_more s region c.loop-level.level c.loop-level.roots.items c.loop-level.words.items c.walk_level.new.words.items c.in_ok-end.end at.tiles at.goes (subst P c.deref.ensures.value is)))
     c.loop-level.invariant.at
     (told_same (g.S.FileSource.told c.loop-level.files) (g.S.FileSource.told c.args.files.now)

@@ -1,16 +1,15 @@
 use Rattle.std.proofs.Common.{◌≡◌, ◌+◌, ℕ, subst, sym, ap, ◌∙◌}
-use Rattle.std.specs.Prelude.{◌==◌}
 use Rattle.std.specs.List.{All}
 use Rattle.std.proofs.lemmas.List.Elements.{All-same}
 use Rattle.std.proofs.lemmas.Result.{IfOk-weaker}
 use Rattle.implicit_tiling.specs.Scene.{Scene}
 use Rattle.tile_walk.specs.declared.outcome.Outcome.TheVariants.{Good, Bad}
-use Rattle.region_cursor.specs.Cursor.{local_level_of, next_root, IsTileWord, Fits}
+use Rattle.region_cursor.specs.Cursor.{next_root, IsTileWord, Fits, HasNoOrphan}
 use Rattle.region_cursor.specs.Moves.{made_good}
 use Rattle.tile_walk.specs.Outcomes.{outcome_seen}
 use Rattle.region_cursor.specs.Walked.{IsAt, GivesStep}
 use Rattle.region_cursor.proofs.Results.{if_all}
-use Rattle.region_cursor.proofs.Words.{words_of_step, no_words_of_fault}
+use Rattle.region_cursor.proofs.Words.{words_of_step}
 use Rattle.region_cursor.proofs.Walked.{makes_as_given}
 use Rattle.region_cursor.proofs.cursor.CursorState.step.Goals as goal
 
@@ -30,10 +29,10 @@ returns-in-Good-clause-scene c =
     let told = ap outcome_seen (sym c.in-Good.is) in
     if_all c.step_good.result
     (λ end. c.step_good.new.words.items ≡ (made_good self st).words) (λ end. end ≡ (made_good self st).end) (λ end. c.step_good.new.self ≡ (made_good self st).after)
-    (λ end. (s : Scene) (k : ℕ) → IsAt s self.region k self → outcome_seen c.args.outcome.now ≡ s.outcome (next_root self)
+    (λ end. (s : Scene) (k : ℕ) → IsAt s self.region k self → outcome_seen c.args.outcome.now ≡ s.outcome (next_root self) → HasNoOrphan c.args.outcome.now
     → GivesStep s self.region k c.step_good.new.words.items end × IsAt s self.region (k + 1) c.step_good.new.self)
-    (λ end words end_is after. λ s k is same.
-    makes_as_given s self.region k self (Good st) c.step_good.new.words.items end c.step_good.new.self words end_is after is c.requires.key fits c.step_good.ensures.limits (told ∙ same))
+    (λ end words end_is after. λ s k is same whole.
+    makes_as_given s self.region k self (Good st) c.step_good.new.words.items end c.step_good.new.self words end_is after is c.requires.key fits (subst HasNoOrphan c.in-Good.is whole) c.step_good.ensures.limits (told ∙ same))
     c.step_good.ensures.words c.step_good.ensures.end c.step_good.ensures.after
 
 pub returns-in-Bad-clause-scene : goal.returns-in-Bad-clause-scene
@@ -41,5 +40,5 @@ returns-in-Bad-clause-scene c =
     let self = c.args.self.now in
     let n = c.in-Bad.number in
     let told = ap outcome_seen (sym c.in-Bad.is) in
-    λ s k is same.
-    makes_as_given s self.region k self (Bad n) c.clear.new.self.items c.step_bad.result c.step_bad.new.self (c.clear.ensures.items ∙ no_words_of_fault (local_level_of self == 0) self n) c.step_bad.ensures.end c.step_bad.ensures.after is c.requires.key tt tt (told ∙ same)
+    λ s k is same whole.
+    makes_as_given s self.region k self (Bad n) c.clear.new.self.items c.step_bad.result c.step_bad.new.self c.clear.ensures.items c.step_bad.ensures.end c.step_bad.ensures.after is c.requires.key tt tt tt (told ∙ same)
