@@ -94,7 +94,7 @@ reply_wanted told (Some check) = reply_in check_reply told
 reply_wanted told (Some (make recipe)) = Some (Ok (make_reply recipe))
 reply_wanted told (Some (survey recipe)) = Some (Ok (survey_reply recipe))
 
--- the wish is of a command that puts files, and of one that reads no file
+-- whether a wish puts files, and whether it reads any; words that ask for nothing do neither
 abbrev pub puts_files : Option Wish → Bool
 puts_files None = false
 puts_files (Some (tiles line)) = false
@@ -103,7 +103,7 @@ puts_files (Some (make recipe)) = true
 puts_files (Some (survey recipe)) = false
 
 abbrev pub reads_files : Option Wish → Bool
-reads_files None = true
+reads_files None = false
 reads_files (Some (tiles line)) = true
 reads_files (Some check) = true
 reads_files (Some (make recipe)) = false

@@ -41,7 +41,7 @@ pub fn plain<S: FileSource, K: FileKeeper, I: Inlet, O: Outlet>(
     ensures write_fault { result ≡ Status.WriteFault → Rose (O.faults out.old) (O.faults out.new)
         ⊎ ((puts_files (asked (map string_bytes words.now)) ≡ true) × Rose (K.faults keep.old) (K.faults keep.new)) }
 
-    // The files that `make` leaves. No other command puts one, and `make` and `survey` read none.
+    // The files that `make` leaves. No other command puts one; `make`, `survey` and words that ask for nothing read none.
     ensures leaves { LeavesWanted (asked (map string_bytes words.now)) (K.kept keep.old) (K.kept keep.new) result }
     ensures kept { puts_files (asked (map string_bytes words.now)) ≡ false → keep.new ≡ keep.old }
     ensures unread { reads_files (asked (map string_bytes words.now)) ≡ false → (files.new ≡ files.old) × (result ≢ Status.ReadFault) }
