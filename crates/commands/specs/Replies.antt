@@ -146,11 +146,16 @@ abbrev pub IsBegun : Result Reply Status → Option (List ℕ) → Option (List 
 IsBegun (Ok wanted) before now = GivesFront before now wanted.text
 IsBegun (Err early) before now = Keeps before now
 
--- What was given with a status, of what is wanted. A failed read comes before anything is given; a failed write and want of
--- memory leave a front of the reply; every other status is the one that is wanted, with the whole text.
+-- some front of the reply was given, and there is one
+abbrev pub IsBroken : Result Reply Status → Option (List ℕ) → Option (List ℕ) → Type 0
+IsBroken (Ok wanted) before now = GivesFront before now wanted.text
+IsBroken (Err early) before now = ⊥
+
+-- What was given with a status, of what is wanted. A failed read comes before anything is given; a failed write leaves a front
+-- of a reply, and want of memory a front of what is wanted; every other status is the one that is wanted, with the whole text.
 abbrev pub Replies : Result Reply Status → Option (List ℕ) → Option (List ℕ) → Status → Type 0
 Replies wanted before now ReadFault = Keeps before now
-Replies wanted before now WriteFault = IsBegun wanted before now
+Replies wanted before now WriteFault = IsBroken wanted before now
 Replies wanted before now Memory = IsBegun wanted before now
 Replies wanted before now Done = IsGiven wanted before now Done
 Replies wanted before now Faulted = IsGiven wanted before now Faulted
