@@ -136,6 +136,15 @@ LeavesWanted (Some check) before now status = Unit {0}
 LeavesWanted (Some (make recipe)) before now status = IfTold before now (λ b n. Leaves recipe b n status)
 LeavesWanted (Some (survey recipe)) before now status = Unit {0}
 
+-- Of a wish to make a tileset: nothing was given, or all its files stand among those that were kept. So the files come before the
+-- text.
+abbrev pub PutsFirst : Option Wish → Option Files → Option Files → Option (List ℕ) → Option (List ℕ) → Type 0
+PutsFirst None kept keeps before now = Unit {0}
+PutsFirst (Some (tiles line)) kept keeps before now = Unit {0}
+PutsFirst (Some check) kept keeps before now = Unit {0}
+PutsFirst (Some (make recipe)) kept keeps before now = Keeps before now ⊎ IfTold kept keeps (IsMade recipe)
+PutsFirst (Some (survey recipe)) kept keeps before now = Unit {0}
+
 -- the reply was given whole, and nothing else, and the program ended with its status; or nothing was given
 abbrev pub IsGiven : Result Reply Status → Option (List ℕ) → Option (List ℕ) → Status → Type 0
 IsGiven (Ok wanted) before now status = (status ≡ wanted.status) × Appends before now wanted.text
