@@ -9,7 +9,7 @@ use Rattle.implicit_tiling.specs.Tile.{Tile}
 use Rattle.implicit_tiling.specs.Scene.{Layout, Scene}
 use Rattle.implicit_tiling.specs.Answer.{End, complete, too_many, fault, answer}
 use Rattle.implicit_tiling.specs.Checked.{checked}
-use Rattle.implicit_tiling.specs.Text.{answer_text, refused_text, checked_text}
+use Rattle.implicit_tiling.specs.Text.{text_of, checked_text}
 use Rattle.implicit_tileset.specs.Tileset.{layout_of}
 use Rattle.implicit_tileset.specs.Scene.{scene_of, layout_in as layout_of_files}
 use Rattle.scene_ports.specs.Output.{GivesFront}
@@ -44,8 +44,8 @@ walk_status (Fault root number) = Faulted
 
 -- the reply to a line that was read to a plan, or refused
 abbrev pub plan_reply : Scene → Result Plan ℕ → Reply
-plan_reply s (Ok plan) = record { status = end_status (answer s plan.region).end; text = answer_text s (answer s plan.region) }
-plan_reply s (Err number) = record { status = Usage; text = refused_text number }
+plan_reply s (Ok plan) = record { status = end_status (answer s plan.region).end; text = text_of s (Ok plan) }
+plan_reply s (Err number) = record { status = Usage; text = text_of s (Err number) }
 
 abbrev pub line_reply : Scene → List ℕ → Reply
 line_reply s line = plan_reply s (plan_of_line s.layout.scheme s.layout.levels (line_of line))
