@@ -115,8 +115,8 @@ pub record IsMade (r : Recipe) (before now : Files) : Type 0 where
   pub layout : layout_of_files now ≡ Ok (recipe_layout r)
   pub holds : HoldsTiles (scene_of now (recipe_layout r)) (recipe_words r)
 
--- What a call with a status leaves of the files that were kept: the whole tileset; or the first of its files, and of no later one
--- is anything known but that at which the keeper failed.
+-- What a call with a status leaves of the files that were kept: the whole tileset; or the first of its files were put and no
+-- later one, and nothing is known of the one at which the keeper failed.
 abbrev pub Leaves : Recipe → Files → Files → Status → Type 0
 Leaves r before now Done = IsMade r before now
 Leaves r before now WriteFault = IsCut (recipe_files r) before now ⊎ IsCutAt (recipe_files r) before now
@@ -214,7 +214,7 @@ Agrees wanted (Err Usage) = ⊥
 Agrees wanted (Err InputFault) = ⊥
 Agrees wanted (Err InputLong) = ⊥
 
--- a status that comes before anything is given
+-- the statuses with which fetching the layout may end
 abbrev pub IsEarly : Status → Type 0
 IsEarly (BadLayout number) = Unit {0}
 IsEarly ReadFault = Unit {0}
