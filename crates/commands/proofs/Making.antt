@@ -1,6 +1,7 @@
 -- What is left of the files that were kept, and fronts of the texts of what was made.
-use Rattle.std.proofs.Common.{◌≡◌, ℕ, List, [], ◌++◌, length, refl, sym, ap₂, subst, append-nil, inl, ◌⊎◌}
+use Rattle.std.proofs.Common.{◌≡◌, ℕ, List, [], ◌++◌, length, refl, sym, ap₂, subst, append-nil, inl, inr, ◌⊎◌}
 use Rattle.std.specs.Prelude.{Option, Some, None, Ok}
+use Rattle.std.proofs.KnownBytes.{Keeps-refl}
 use Rattle.implicit_tiling.specs.Files.{Files}
 use Rattle.implicit_tileset.specs.Scene.{scene_of, layout_in as layout_of_files}
 use Rattle.scene_ports.specs.Output.{GivesFront}
@@ -10,7 +11,7 @@ use Rattle.tileset_make.specs.declared.recipe.Recipe.{Recipe}
 use Rattle.tileset_make.specs.Recipes.{recipe_layout, recipe_words, recipe_files, Found, survey_of}
 use Rattle.request_text.specs.Made.{made_text, survey_text}
 use Rattle.commands.specs.declared.status.Status.TheVariants.{Done, WriteFault, Memory}
-use Rattle.commands.specs.Replies.{IsBegun, Leaves, LeavesWanted, make_reply, survey_reply}
+use Rattle.commands.specs.Replies.{IsBegun, IsMade, Leaves, LeavesWanted, PutsFirst, make_reply, survey_reply}
 use Rattle.commands.specs.Words.{Wish, tiles, check, make, survey}
 
 told_all : (before now : Option Files) (P Q : Files → Files → Type 0) → ((b n : Files) → P b n → Q b n) → IfTold before now P → IfTold before now Q
@@ -33,6 +34,18 @@ pub left_made : (before now : Option Files) (r : Recipe) → IfTold before now (
 left_made None now r put layout holds = tt
 left_made (Some b) None r put layout holds = put
 left_made (Some b) (Some n) r put layout holds = record { put = put; layout = layout; holds = holds }
+
+pub first_made : (before now : Option Files) (r : Recipe) (X : Type 0) → IfTold before now (ArePut (recipe_files r)) → IfTold before now (λ b n. layout_of_files n ≡ Ok (recipe_layout r))
+    → IfTold before now (λ b n. HoldsTiles (scene_of n (recipe_layout r)) (recipe_words r)) → X ⊎ IfTold before now (IsMade r)
+first_made before now r X put layout holds = inr (left_made before now r put layout holds)
+
+-- where nothing was given, the files come first
+pub nothing_first : (found : Option Wish) (kept : Option Files) (before : Option (List ℕ)) → PutsFirst found kept kept before before
+nothing_first None kept before = tt
+nothing_first (Some (tiles line)) kept before = tt
+nothing_first (Some check) kept before = tt
+nothing_first (Some (make r)) kept before = inl (Keeps-refl before)
+nothing_first (Some (survey r)) kept before = tt
 
 -- a call that wants memory before anything is put leaves all as it was
 pub nothing_left : (found : Option Wish) (kept : Option Files) → LeavesWanted found kept kept Memory

@@ -9,7 +9,7 @@ use Rattle.implicit_tiling.specs.Tile.{Tile}
 use Rattle.implicit_tiling.specs.Scene.{Layout, Scene}
 use Rattle.implicit_tiling.specs.Answer.{End, complete, too_many, fault, answer}
 use Rattle.implicit_tiling.specs.Checked.{checked}
-use Rattle.implicit_tiling.specs.Text.{answer_text, refused_text, checked_text}
+use Rattle.implicit_tiling.specs.Text.{text_of, checked_text}
 use Rattle.implicit_tileset.specs.Tileset.{layout_of}
 use Rattle.implicit_tileset.specs.Scene.{scene_of, layout_in as layout_of_files}
 use Rattle.scene_ports.specs.Output.{GivesFront}
@@ -44,8 +44,8 @@ walk_status (Fault root number) = Faulted
 
 -- the reply to a line that was read to a plan, or refused
 abbrev pub plan_reply : Scene → Result Plan ℕ → Reply
-plan_reply s (Ok plan) = record { status = end_status (answer s plan.region).end; text = answer_text s (answer s plan.region) }
-plan_reply s (Err number) = record { status = Usage; text = refused_text number }
+plan_reply s (Ok plan) = record { status = end_status (answer s plan.region).end; text = text_of s (Ok plan) }
+plan_reply s (Err number) = record { status = Usage; text = text_of s (Err number) }
 
 abbrev pub line_reply : Scene → List ℕ → Reply
 line_reply s line = plan_reply s (plan_of_line s.layout.scheme s.layout.levels (line_of line))
@@ -94,7 +94,7 @@ reply_wanted told (Some check) = reply_in check_reply told
 reply_wanted told (Some (make recipe)) = Some (Ok (make_reply recipe))
 reply_wanted told (Some (survey recipe)) = Some (Ok (survey_reply recipe))
 
--- the wish is of a command that puts files, and of one that reads no file
+-- whether a wish puts files, and whether it reads any; words that ask for nothing do neither
 abbrev pub puts_files : Option Wish → Bool
 puts_files None = false
 puts_files (Some (tiles line)) = false
@@ -103,7 +103,7 @@ puts_files (Some (make recipe)) = true
 puts_files (Some (survey recipe)) = false
 
 abbrev pub reads_files : Option Wish → Bool
-reads_files None = true
+reads_files None = false
 reads_files (Some (tiles line)) = true
 reads_files (Some check) = true
 reads_files (Some (make recipe)) = false
@@ -115,8 +115,8 @@ pub record IsMade (r : Recipe) (before now : Files) : Type 0 where
   pub layout : layout_of_files now ≡ Ok (recipe_layout r)
   pub holds : HoldsTiles (scene_of now (recipe_layout r)) (recipe_words r)
 
--- What a call with a status leaves of the files that were kept: the whole tileset; or the first of its files, and of no later one
--- is anything known but that at which the keeper failed.
+-- What a call with a status leaves of the files that were kept: the whole tileset; or the first of its files were put and no
+-- later one, and nothing is known of the one at which the keeper failed.
 abbrev pub Leaves : Recipe → Files → Files → Status → Type 0
 Leaves r before now Done = IsMade r before now
 Leaves r before now WriteFault = IsCut (recipe_files r) before now ⊎ IsCutAt (recipe_files r) before now
@@ -136,6 +136,15 @@ LeavesWanted (Some check) before now status = Unit {0}
 LeavesWanted (Some (make recipe)) before now status = IfTold before now (λ b n. Leaves recipe b n status)
 LeavesWanted (Some (survey recipe)) before now status = Unit {0}
 
+-- Of a wish to make a tileset: nothing was given, or all its files stand among those that were kept. So the files come before the
+-- text.
+abbrev pub PutsFirst : Option Wish → Option Files → Option Files → Option (List ℕ) → Option (List ℕ) → Type 0
+PutsFirst None kept keeps before now = Unit {0}
+PutsFirst (Some (tiles line)) kept keeps before now = Unit {0}
+PutsFirst (Some check) kept keeps before now = Unit {0}
+PutsFirst (Some (make recipe)) kept keeps before now = Keeps before now ⊎ IfTold kept keeps (IsMade recipe)
+PutsFirst (Some (survey recipe)) kept keeps before now = Unit {0}
+
 -- the reply was given whole, and nothing else, and the program ended with its status; or nothing was given
 abbrev pub IsGiven : Result Reply Status → Option (List ℕ) → Option (List ℕ) → Status → Type 0
 IsGiven (Ok wanted) before now status = (status ≡ wanted.status) × Appends before now wanted.text
@@ -146,11 +155,16 @@ abbrev pub IsBegun : Result Reply Status → Option (List ℕ) → Option (List 
 IsBegun (Ok wanted) before now = GivesFront before now wanted.text
 IsBegun (Err early) before now = Keeps before now
 
--- What was given with a status, of what is wanted. A failed read comes before anything is given; a failed write and want of
--- memory leave a front of the reply; every other status is the one that is wanted, with the whole text.
+-- some front of the reply was given, and there is one
+abbrev pub IsBroken : Result Reply Status → Option (List ℕ) → Option (List ℕ) → Type 0
+IsBroken (Ok wanted) before now = GivesFront before now wanted.text
+IsBroken (Err early) before now = ⊥
+
+-- What was given with a status, of what is wanted. A failed read comes before anything is given; a failed write leaves a front
+-- of a reply, and want of memory a front of what is wanted; every other status is the one that is wanted, with the whole text.
 abbrev pub Replies : Result Reply Status → Option (List ℕ) → Option (List ℕ) → Status → Type 0
 Replies wanted before now ReadFault = Keeps before now
-Replies wanted before now WriteFault = IsBegun wanted before now
+Replies wanted before now WriteFault = IsBroken wanted before now
 Replies wanted before now Memory = IsBegun wanted before now
 Replies wanted before now Done = IsGiven wanted before now Done
 Replies wanted before now Faulted = IsGiven wanted before now Faulted
@@ -200,7 +214,7 @@ Agrees wanted (Err Usage) = ⊥
 Agrees wanted (Err InputFault) = ⊥
 Agrees wanted (Err InputLong) = ⊥
 
--- a status that comes before anything is given
+-- the statuses with which fetching the layout may end
 abbrev pub IsEarly : Status → Type 0
 IsEarly (BadLayout number) = Unit {0}
 IsEarly ReadFault = Unit {0}

@@ -1,8 +1,9 @@
 // The command `make`: the files of a generated tileset.
 ghost use Rattle.std.specs.Prelude.{◌≡◌, ◌⊎◌, Ok};
+ghost use Rattle.std.specs.Io.KnownBytes.{Keeps};
 ghost use Rattle.scene_ports.specs.Counts.{Rose};
 ghost use Rattle.tile_builder.specs.Puts.{IfTold};
-ghost use Rattle.commands.specs.Replies.{Replies, Leaves, IsOfMaking, make_reply};
+ghost use Rattle.commands.specs.Replies.{Replies, Leaves, IsMade, IsOfMaking, make_reply};
 
 use crate::status::Status;
 use request_text::write_made;
@@ -21,6 +22,7 @@ pub(crate) fn answer_make<K: FileKeeper, O: Outlet>(
     ensures replies { Replies (Ok (make_reply recipe.now)) (O.given out.old) (O.given out.new) result }
     ensures status { IsOfMaking result }
     ensures leaves { IfTold (K.kept keep.old) (K.kept keep.new) (λ before now. Leaves recipe.now before now result) }
+    ensures first { Keeps (O.given out.old) (O.given out.new) ⊎ IfTold (K.kept keep.old) (K.kept keep.new) (IsMade recipe.now) }
     ensures write_fault { result ≡ Status.WriteFault → Rose (O.faults out.old) (O.faults out.new) ⊎ Rose (K.faults keep.old) (K.faults keep.new) }
     ensures left_aside { O.left_aside out.new ≡ O.left_aside out.old }
     ensures taken_aside { O.taken_aside out.new ≡ O.taken_aside out.old }

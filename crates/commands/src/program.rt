@@ -3,7 +3,7 @@ ghost use Rattle.std.specs.Prelude.{◌≡◌, ◌≢◌, ◌⊎◌, ◌<◌, Ok
 ghost use Rattle.std.specs.Io.KnownBytes.{Keeps};
 ghost use Rattle.scene_ports.specs.Counts.{Rose};
 ghost use Rattle.commands.specs.Words.{asked, asked_seen};
-ghost use Rattle.commands.specs.Replies.{Replies, IsGiven, IsBeforeWriting, IsRefused, LeavesWanted, reply_wanted, puts_files, reads_files};
+ghost use Rattle.commands.specs.Replies.{Replies, IsGiven, IsBeforeWriting, IsRefused, LeavesWanted, PutsFirst, reply_wanted, puts_files, reads_files};
 
 use crate::answer::answer_tiles;
 use crate::check::answer_check;
@@ -41,8 +41,10 @@ pub fn plain<S: FileSource, K: FileKeeper, I: Inlet, O: Outlet>(
     ensures write_fault { result ≡ Status.WriteFault → Rose (O.faults out.old) (O.faults out.new)
         ⊎ ((puts_files (asked (map string_bytes words.now)) ≡ true) × Rose (K.faults keep.old) (K.faults keep.new)) }
 
-    // The files that `make` leaves. No other command puts one, and `make` and `survey` read none.
+    // The files that `make` leaves, all of them before any text. No other command puts one; `make`, `survey` and words that
+    // ask for nothing read none.
     ensures leaves { LeavesWanted (asked (map string_bytes words.now)) (K.kept keep.old) (K.kept keep.new) result }
+    ensures first { PutsFirst (asked (map string_bytes words.now)) (K.kept keep.old) (K.kept keep.new) (O.given out.old) (O.given out.new) }
     ensures kept { puts_files (asked (map string_bytes words.now)) ≡ false → keep.new ≡ keep.old }
     ensures unread { reads_files (asked (map string_bytes words.now)) ≡ false → (files.new ≡ files.old) × (result ≢ Status.ReadFault) }
 
@@ -73,6 +75,7 @@ fn run<S: FileSource, K: FileKeeper, O: Outlet>(
     ensures write_fault { result ≡ Status.WriteFault → Rose (O.faults out.old) (O.faults out.new)
         ⊎ ((puts_files (Some (asked_seen asked.now)) ≡ true) × Rose (K.faults keep.old) (K.faults keep.new)) }
     ensures leaves { LeavesWanted (Some (asked_seen asked.now)) (K.kept keep.old) (K.kept keep.new) result }
+    ensures first { PutsFirst (Some (asked_seen asked.now)) (K.kept keep.old) (K.kept keep.new) (O.given out.old) (O.given out.new) }
     ensures kept { puts_files (Some (asked_seen asked.now)) ≡ false → keep.new ≡ keep.old }
     ensures unread { reads_files (Some (asked_seen asked.now)) ≡ false → (files.new ≡ files.old) × (result ≢ Status.ReadFault) }
     ensures left_aside { O.left_aside out.new ≡ O.left_aside out.old }

@@ -1,4 +1,4 @@
-use Rattle.commands.proofs.Making.{left_whole, left_in_memory, left_made, made_front}
+use Rattle.commands.proofs.Making.{left_whole, left_in_memory, left_made, first_made, made_front}
 use Rattle.commands.proofs.make.answer_make.Goals as goal
 
 pub returns-in-Ok-write_made-clause-leaves : goal.returns-in-Ok-write_made-clause-leaves
@@ -15,3 +15,12 @@ returns-in-Err-Memory-write_made-clause-replies g c = made_front c.args.recipe.n
 
 pub returns-in-Err-Memory-write_made-clause-leaves : goal.returns-in-Err-Memory-write_made-clause-leaves
 returns-in-Err-Memory-write_made-clause-leaves g c = left_in_memory _ _ c.args.recipe.now c.in-Ok.ensures.kept
+
+pub returns-in-Ok-write_made-clause-first : goal.returns-in-Ok-write_made-clause-first
+returns-in-Ok-write_made-clause-first g c = first_made _ _ c.args.recipe.now _ c.in-Ok.ensures.kept c.in-Ok.ensures.layout c.in-Ok.ensures.holds
+
+pub returns-in-Err-WriteFault-clause-first : goal.returns-in-Err-WriteFault-clause-first
+returns-in-Err-WriteFault-clause-first g c = first_made _ _ c.args.recipe.now _ c.in-Ok.ensures.kept c.in-Ok.ensures.layout c.in-Ok.ensures.holds
+
+pub returns-in-Err-Memory-write_made-clause-first : goal.returns-in-Err-Memory-write_made-clause-first
+returns-in-Err-Memory-write_made-clause-first g c = first_made _ _ c.args.recipe.now _ c.in-Ok.ensures.kept c.in-Ok.ensures.layout c.in-Ok.ensures.holds

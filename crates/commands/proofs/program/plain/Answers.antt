@@ -3,7 +3,7 @@ use Rattle.std.specs.Prelude.{string_bytes}
 use Rattle.commands.specs.Words.{asked, asked_seen}
 use Rattle.commands.specs.Replies.{reply_wanted}
 use Rattle.commands.proofs.Answering.{of_wanted, nothing_begun, complete_of, failed_write_of}
-use Rattle.commands.proofs.Making.{nothing_left}
+use Rattle.commands.proofs.Making.{nothing_left, nothing_first}
 use Rattle.commands.proofs.program.plain.Goals as goal
 
 pub returns-in-Ok-clause-complete : goal.returns-in-Ok-clause-complete
@@ -19,3 +19,9 @@ returns-in-Err-Memory-clause-replies g c =
 
 pub returns-in-Err-Memory-clause-leaves : goal.returns-in-Err-Memory-clause-leaves
 returns-in-Err-Memory-clause-leaves g c = nothing_left (asked (map string_bytes c.args.words.now)) (g.K.FileKeeper.kept c.args.keep.now)
+
+pub returns-in-Err-Memory-clause-first : goal.returns-in-Err-Memory-clause-first
+returns-in-Err-Memory-clause-first g c = nothing_first (asked (map string_bytes c.args.words.now)) (g.K.FileKeeper.kept c.args.keep.now) (g.O.Outlet.given c.args.out.now)
+
+pub returns-in-Err-Usage-clause-first : goal.returns-in-Err-Usage-clause-first
+returns-in-Err-Usage-clause-first g c = nothing_first (asked (map string_bytes c.args.words.now)) (g.K.FileKeeper.kept c.args.keep.now) (g.O.Outlet.given c.args.out.now)
