@@ -1,4 +1,5 @@
--- The layout that the bytes of `tileset.json` state, or the number of their first fault of 3 to 12.
+-- The layout that the bytes of `tileset.json` state, or the number of their first fault of 3 to 12 (OGC 22-025r4, implicit
+-- tiling: implicit root tile, template URIs; the numbers and the order of the faults are this project's own).
 use Rattle.std.specs.Prelude.{ℕ, ◌&&◌, nat_lt, nat_le, List, [], ◌∷◌, length, codes, Option, Some, None, option_and_then, option_map, Result, Ok, if◌then◌else◌}
 use Rattle.std.specs.Str.{bytes_eq}
 use Rattle.serde_json.specs.Data.{Data}
