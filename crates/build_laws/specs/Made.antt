@@ -58,7 +58,7 @@ made_subtree layout words r = record {
   child = child_bits layout (child_roots layout r words);
 }
 
--- the roots whose subtrees have a tile, in key order; the root tile is one of them also where there is no tile at all
+-- the tiles of the list that are subtree roots, in its order; the root tile alone where the list is empty
 abbrev pub made_roots : Layout → List ℕ → List Tile
 made_roots layout [] = root ∷ []
 made_roots layout (w ∷ words) = filter (is_subtree_root layout) (tiles_of layout.scheme (w ∷ words))

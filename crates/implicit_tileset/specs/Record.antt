@@ -4,7 +4,7 @@ use Rattle.std.specs.Prelude.{ℕ, ◌==◌, Bool, true, false, List, [], ◌∷
 use Rattle.serde_json.specs.Data.{Data}
 use Rattle.serde_json.specs.Find.{get, as_array, as_number, as_u64, as_str}
 use Rattle.implicit_tiling.specs.Checks.{need}
-use Rattle.implicit_tileset.specs.Json.{json_of, object_of, number_at, list_of}
+use Rattle.implicit_tileset.specs.Json.{json_of, object_of, number_at, list_of, each_read}
 
 -- a buffer: its length, and whether it stands in a file of its own
 pub record Buffer : Type 0 where
@@ -37,11 +37,6 @@ pub record SubtreeRecord : Type 0 where
 -- the number that a value is, as `serde_json` gives it: a whole number that isn't negative
 abbrev pub number_of : Data → Option ℕ
 number_of value = option_and_then as_u64 (as_number value)
-
--- each of these read in the same way, where all can be
-abbrev pub each_read : {A : Type 0} → (Data → Option A) → List Data → Option (List A)
-each_read of [] = Some []
-each_read of (value ∷ values) = option_and_then (λ a. option_map (λ rest. a ∷ rest) (each_read of values)) (of value)
 
 -- a list that may be absent, which is then empty
 abbrev pub list_read : {A : Type 0} → (Data → Option A) → Option Data → Option (List A)

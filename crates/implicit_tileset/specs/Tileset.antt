@@ -1,4 +1,5 @@
--- The layout that the bytes of `tileset.json` state, or the number of their first fault of 3 to 12.
+-- The layout that the bytes of `tileset.json` state, or the number of their first fault of 3 to 12 (OGC 22-025r4, implicit
+-- tiling: implicit root tile, template URIs; the numbers and the order of the faults are this project's own).
 use Rattle.std.specs.Prelude.{ℕ, ◌&&◌, nat_lt, nat_le, List, [], ◌∷◌, length, codes, Option, Some, None, option_and_then, option_map, Result, Ok, if◌then◌else◌}
 use Rattle.std.specs.Str.{bytes_eq}
 use Rattle.serde_json.specs.Data.{Data}
@@ -10,7 +11,7 @@ pub use Rattle.implicit_tiling.specs.Template.{is_template}
 use Rattle.implicit_tiling.specs.Limits.{most_contents}
 use Rattle.implicit_tiling.specs.Checks.{need, refuse}
 use Rattle.implicit_tiling.specs.Scene.{Layout}
-use Rattle.implicit_tileset.specs.Json.{json_of, object_at, number_at, text_at, has_member, list_of}
+use Rattle.implicit_tileset.specs.Json.{json_of, object_at, number_at, text_at, has_member, list_of, each_read}
 
 abbrev pub scheme_named : List ℕ → Option Scheme
 scheme_named text = if bytes_eq text (codes "QUADTREE") then Some Quad else (if bytes_eq text (codes "OCTREE") then Some Oct else None)
@@ -24,8 +25,7 @@ abbrev pub template_of : Data → Option (List ℕ)
 template_of value = option_and_then (λ text. if is_template text then Some text else None) (text_at (codes "uri") value)
 
 abbrev pub templates_of : List Data → Option (List (List ℕ))
-templates_of [] = Some []
-templates_of (value ∷ values) = option_and_then (λ t. option_map (λ ts. t ∷ ts) (templates_of values)) (template_of value)
+templates_of values = each_read template_of values
 
 -- the content templates: that of `content`, or those of `contents`, or none
 abbrev pub contents_from : Option Data → Option Data → Option (List (List ℕ))

@@ -8,7 +8,7 @@ use Rattle.implicit_tiling.specs.Region.{Region, is_in}
 use Rattle.implicit_tiling.specs.Scene.{Scene, fault_of}
 use Rattle.implicit_tiling.specs.Availability.{is_available, is_reached}
 
--- the subtree roots that the walk of a region reads
+-- the walk of a region: the subtree roots that are reached and in the region
 abbrev pub is_on_walk : Scene → Region → Tile → Bool
 is_on_walk s region r = is_reached s r && is_in region r
 

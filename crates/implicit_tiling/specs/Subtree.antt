@@ -55,7 +55,7 @@ has_orphan s = some_node s.scheme 1 (s.levels - 1) (λ l m. has_tile s l m && no
 abbrev pub has_content_alone : Subtree → Bool
 has_content_alone s = some_node s.scheme 0 s.levels (λ l m. list_any (λ bits. node_bit s bits l m) s.contents && not (has_tile s l m))
 
--- the numbers of bits: of tiles and of each content one for each node, of child subtrees one below each node of the last level
+-- the numbers of bits: of tiles and of each content one for each node, of child subtrees N below each node of the last level
 abbrev pub node_count : Scheme → ℕ → ℕ
 node_count scheme levels = nodes_above scheme levels
 

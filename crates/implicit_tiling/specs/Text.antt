@@ -1,4 +1,4 @@
--- The text of an answer: its lines, with TAB between the parts and LF at the end (this project's own).
+-- The texts of answers, refusals and checks: lines with TAB between the parts and LF at the end (this project's own).
 use Rattle.std.specs.Prelude.{ℕ, ◌+◌, ◌%◌, ◌/◌, ◌^◌, ◌==◌, List, [], ◌∷◌, ◌++◌, length, codes, Bool, true, false, Result, Ok, Err, if◌then◌else◌}
 use Rattle.std.specs.List.{flat_map, join_with_byte}
 use Rattle.std.specs.Fmt.{decimal}

@@ -1,1 +1,1 @@
-pub mod EachRead
+pub mod Listed

@@ -5,8 +5,8 @@ use Rattle.serde_json.specs.Data.{Data, array}
 use Rattle.serde_json.specs.Find.{get}
 use Rattle.serde_json.specs.View.{items_of}
 use Rattle.implicit_tiling.specs.Checks.{need}
-use Rattle.implicit_tileset.specs.Json.{json_of, object_of, list_of}
-use Rattle.implicit_tileset.specs.Record.{Buffer, BufferView, Availability, constant, stream, ContentPart, well_formed, SubtreeRecord, record_of, each_read, list_read, buffer_of, view_of, availability_of, availability_at, content_from, content_of}
+use Rattle.implicit_tileset.specs.Json.{json_of, object_of, list_of, each_read}
+use Rattle.implicit_tileset.specs.Record.{Buffer, BufferView, Availability, constant, stream, ContentPart, well_formed, SubtreeRecord, record_of, list_read, buffer_of, view_of, availability_of, availability_at, content_from, content_of}
 use Rattle.bitstream.specs.Bytes.{bytes_filled}
 use Rattle.subtree_write.specs.Canonical.{aligned, is_mixed, has_one, streams_of, view_values, buffer_values, constant_value, stream_value, availability_value, availability_values, file_value}
 use Rattle.subtree_write.proofs.Mixed.{ones}

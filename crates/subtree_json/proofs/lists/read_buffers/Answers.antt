@@ -2,7 +2,8 @@ use Rattle.std.proofs.Common.{◌+◌, ◌∙◌, sym, ap, rules, codes}
 use Rattle.serde_json.specs.Find.{get}
 use Rattle.serde_json.specs.View.{view}
 use Rattle.implicit_tileset.specs.Record.{buffer_of}
-use Rattle.subtree_json.proofs.EachRead.{goes_on, goes_on-start, goes_on-step, goes_on-fails, goes_on-end, IsList, listed_as}
+use Rattle.implicit_tileset.proofs.EachRead.{goes_on, goes_on-start, goes_on-step, goes_on-fails, goes_on-end}
+use Rattle.subtree_json.proofs.Listed.{IsList, listed_as}
 use Rattle.subtree_json.proofs.lists.read_buffers.Goals as goal
 
 pub loop-member-init : goal.loop-member-init

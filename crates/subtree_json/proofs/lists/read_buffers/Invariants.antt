@@ -1,6 +1,6 @@
 use Rattle.std.proofs.Common.{◌≡◌}
 use Rattle.implicit_tileset.specs.Record.{buffer_of}
-use Rattle.subtree_json.proofs.EachRead.{read_all, goes_on}
+use Rattle.implicit_tileset.proofs.EachRead.{read_all, goes_on}
 use Rattle.subtree_json.proofs.lists.read_buffers.Given as goal
 
 abbrev pub invariant-loop-member : goal.invariant-loop-member

@@ -4,7 +4,8 @@ use Rattle.serde_json.specs.Find.{get}
 use Rattle.serde_json.specs.View.{view}
 use Rattle.implicit_tileset.specs.Record.{content_of}
 use Rattle.subtree_json.specs.Seen.{content_seen}
-use Rattle.subtree_json.proofs.EachRead.{goes_on, goes_on-start, goes_on-step, goes_on-end, IsList, listed_as}
+use Rattle.implicit_tileset.proofs.EachRead.{goes_on, goes_on-start, goes_on-step, goes_on-end}
+use Rattle.subtree_json.proofs.Listed.{IsList, listed_as}
 use Rattle.subtree_json.proofs.lists.read_contents.Goals as goal
 
 pub loop-member-init : goal.loop-member-init

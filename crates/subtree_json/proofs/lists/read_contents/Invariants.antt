@@ -1,7 +1,7 @@
 use Rattle.std.proofs.Common.{◌≡◌, map}
 use Rattle.implicit_tileset.specs.Record.{content_of}
 use Rattle.subtree_json.specs.Seen.{content_seen}
-use Rattle.subtree_json.proofs.EachRead.{read_all, goes_on}
+use Rattle.implicit_tileset.proofs.EachRead.{read_all, goes_on}
 use Rattle.subtree_json.proofs.lists.read_contents.Given as goal
 
 abbrev pub invariant-loop-member : goal.invariant-loop-member

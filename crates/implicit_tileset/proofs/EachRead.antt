@@ -1,16 +1,12 @@
 -- A list of JSON values read member by member: what has been read, and what is left.
 use Rattle.std.proofs.Common.{◌≡◌, ℕ, suc, ◌+◌, ◌<◌, ◌≤◌, List, [], ◌∷◌, ◌++◌, length, get_or, drop, refl, sym, ap, ◌∙◌, add-one, append_assoc, append-nil}
-use Rattle.std.specs.Prelude.{Option, Some, None, option_and_then, option_map, Ok}
+use Rattle.std.specs.Prelude.{Option, Some, None, option_and_then, option_map}
 use Rattle.std.proofs.Math.Seq.{drop-cons}
 use Rattle.std.proofs.Math.ListN.{drop_of_length-le}
 use Rattle.serde_json.specs.Data.{Data}
 use Rattle.serde_json.specs.View.{view, items_view}
 use Rattle.serde_json.specs.declared.value.Value.{Value}
-use Rattle.serde_json.specs.Find.{as_array}
-use Rattle.implicit_tiling.specs.Checks.{need}
-use Rattle.implicit_tileset.specs.Json.{list_of}
-use Rattle.implicit_tileset.specs.Record.{each_read}
-use Rattle.subtree_json.specs.Reading.{listed}
+use Rattle.implicit_tileset.specs.Json.{list_of, each_read}
 
 abbrev pub read_all : {A : Type 0} → (Data → Option A) → List Value → Option (List A)
 read_all of vs = each_read of (list_of (items_view vs))
@@ -56,15 +52,3 @@ goes_on-fails of done vs i v within is read =
 -- all are read
 pub goes_on-end : {A : Type 0} (of : Data → Option A) (done : List A) (vs : List Value) (i : ℕ) → length vs ≤ i → goes_on of done vs i ≡ Some done
 goes_on-end of done vs i past = ap (λ ws. followed done (read_all of ws)) (drop_of_length-le vs past) ∙ ap Some (append-nil done)
-
--- a member that is a list of these values
-pub record IsList (member : Option Data) (vs : List Value) : Type 0 where
-  pub value : Data
-  pub there : member ≡ Some value
-  pub values : as_array value ≡ Some (items_view vs)
-
--- what a list of these values states
-pub listed_as : {A : Type 0} (number : ℕ) (of : Data → Option A) (member : Option Data) (vs : List Value) (read : Option (List A))
-    → IsList member vs → read_all of vs ≡ read → listed number of member ≡ need number read Ok
-listed_as number of member vs read list is =
-    ap (λ o. listed number of o) list.there ∙ ap (λ o. need number (option_and_then (λ items. each_read of (list_of items)) o) Ok) list.values ∙ ap (λ o. need number o Ok) is
