@@ -112,13 +112,6 @@ no_content_alone s k count each =
 
 -- ---- as the code sees it: s is what the fields say, and t the value that they make
 
--- the bits of a kept level are there
-pub kept_end : (s t : Subtree) (k l : ℕ) → s ≡ t → IsSubtree s → IsKeptCount t k → l < k → nodes_above s.scheme (l + 1) ≤ length s.tiles
-kept_end s t k l same is count low =
-    let own : IsKeptCount s k = subst (λ u. IsKeptCount u k) (sym same) count in
-    let le : l + 1 ≤ s.levels = omega (arith, own.within) in
-    omega (arith, nodes_rise s.scheme (l + 1) s.levels le, is.tile_bits)
-
 pub orphan_seen : (s t : Subtree) (k l : ℕ) → s ≡ t → IsKeptCount t k → 1 ≤ l → l < k
     → (m : ℕ) × (m < branching s.scheme ^ l) × (raw_orphan s.scheme s.tiles l m ≡ true) → true ≡ has_orphan t
 orphan_seen s t k l same count one low found =

@@ -3,5 +3,6 @@ pub mod Parts
 pub mod Tiles
 pub mod Places
 pub mod Orphans
+pub mod Repeats
 pub mod Masks
 pub mod Checks

@@ -1,133 +1,115 @@
--- The search for a node without its parent.
-use Rattle.std.proofs.Common.{◌≡◌, ℕ, zero, suc, ◌+◌, ◌-◌, ◌*◌, ◌/◌, ◌%◌, ◌^◌, ◌<◌, ◌≤◌, List, Bool, true, false, refl, sym, ap, subst, ◌∙◌, arith, inl, inr}
-use Rattle.std.specs.Prelude.{not}
+-- Nodes without their parents, by words.
+use Rattle.std.proofs.Common.{◌≡◌, ℕ, zero, suc, ◌+◌, ◌-◌, ◌*◌, ◌/◌, ◌%◌, ◌^◌, ◌<◌, ◌≤◌, List, Bool, true, false, eqb, min, bit_and, refl, sym, ap, subst, ◌∙◌, arith, inl, inr, w64}
+use Rattle.std.specs.Prelude.{◌&&◌, not}
+use Rattle.std.specs.Int.{bit_at as digit_at, bit_not}
 use Rattle.std.proofs.Math.Nat.{pow-suc}
-use Rattle.std.proofs.lemmas.Bool.{cases_lt, and_left, and_right, and_from, not_from_true, not_from_false}
+use Rattle.std.proofs.lemmas.Bool.{cases_lt}
+use Rattle.std.proofs.lemmas.Nat.Bits.{bit_at-lt, bit_at_and, bit_at_not}
 use Rattle.implicit_tiling.specs.declared.Scheme.{Scheme}
 use Rattle.implicit_tiling.specs.declared.Scheme.TheVariants.{Quad, Oct}
 use Rattle.implicit_tiling.specs.Tile.{axes, branching}
 use Rattle.implicit_tiling.specs.Availability.{nodes_above}
 use Rattle.implicit_tiling.specs.Bits.{bit_at}
-use Rattle.bitstream.specs.Bits.{HasNoOne}
-use Rattle.availability.specs.Rules.{raw_bit, raw_orphan}
-use Rattle.availability.proofs.Places.{place_below}
+use Rattle.bitstream.specs.Words.{IsWordFrom}
+use Rattle.bitstream.proofs.Apart.{lowest_of, no_digit}
+use Rattle.bitstream.proofs.Front.{digit_of_low, digit_past_low}
+use Rattle.availability.specs.Rules.{raw_bit, raw_orphan, RepeatsBits}
 
-pub two_to_axes : (scheme : Scheme) → 2 ^ axes scheme ≡ branching scheme
+two_to_axes : (scheme : Scheme) → 2 ^ axes scheme ≡ branching scheme
 two_to_axes Quad = refl
 two_to_axes Oct = refl
-
--- children of one parent
-pub same_parent : (scheme : Scheme) (k m p : ℕ) → p ≡ k / branching scheme → k ≤ m → m < (p + 1) * branching scheme → m / branching scheme ≡ p
-same_parent Quad k m p is le lt = omega arith
-same_parent Oct k m p is le lt = omega arith
-
-pub behind_child : (scheme : Scheme) (k p : ℕ) → p ≡ k / branching scheme → k < (p + 1) * branching scheme
-behind_child Quad k p is = omega arith
-behind_child Oct k p is = omega arith
 
 pub parent_within : (scheme : Scheme) (l k p : ℕ) → 1 ≤ l → k < branching scheme ^ l → p ≡ k / branching scheme → p < branching scheme ^ (l - 1)
 parent_within scheme zero k p one h is = absurd (omega arith)
 parent_within Quad (suc l) k p one h is = let back : suc l - 1 ≡ l = omega arith in omega (arith, pow-suc 4 l, ap (λ e. 4 ^ e) back)
 parent_within Oct (suc l) k p one h is = let back : suc l - 1 ≡ l = omega arith in omega (arith, pow-suc 8 l, ap (λ e. 8 ^ e) back)
 
-pub behind_within : (scheme : Scheme) (l k p : ℕ) → 1 ≤ l → k < branching scheme ^ l → p ≡ k / branching scheme → (p + 1) * branching scheme ≤ branching scheme ^ l
-behind_within scheme zero k p one h is = absurd (omega arith)
-behind_within Quad (suc l) k p one h is = omega (arith, pow-suc 4 l)
-behind_within Oct (suc l) k p one h is = omega (arith, pow-suc 8 l)
-
--- up to here no node of the level is without its parent
+-- of the level's first nodes none is without its parent
 abbrev pub NoOrphanBefore : Scheme → List Bool → ℕ → ℕ → Type 0
-NoOrphanBefore scheme bits l from = (m : ℕ) → nodes_above scheme l + m < from → raw_orphan scheme bits l m ≡ false
+NoOrphanBefore scheme bits l end = (m : ℕ) → m < end → m < branching scheme ^ l → raw_orphan scheme bits l m ≡ false
 
--- the parent of the next node is there, and so is that of the nodes after it
-pub none_behind : (scheme : Scheme) (bits : List Bool) (l from k p : ℕ) → p ≡ k / branching scheme
-    → NoOrphanBefore scheme bits l from → HasNoOne (bit_at bits) from (nodes_above scheme l + k) → raw_bit scheme bits (l - 1) p ≡ true
-    → NoOrphanBefore scheme bits l (nodes_above scheme l + (p + 1) * branching scheme)
-none_behind scheme bits l from k p is before gap there m low =
-    elim (cases_lt (nodes_above scheme l + m) from) [
-      | inl old ↦ before m old
-      | inr new ↦ elim (cases_lt (nodes_above scheme l + m) (nodes_above scheme l + k)) [
-        | inl short ↦ and_left (raw_bit scheme bits l m) (not (raw_bit scheme bits (l - 1) (m / branching scheme))) (gap (nodes_above scheme l + m) new short)
-        | inr long ↦ and_right (raw_bit scheme bits l m) (not (raw_bit scheme bits (l - 1) (m / branching scheme)))
-            (not_from_true (raw_bit scheme bits (l - 1) (m / branching scheme))
-            (ap (raw_bit scheme bits (l - 1)) (same_parent scheme k m p is (omega arith) (omega arith)) ∙ there))
-      ]
+-- the parents of 64 nodes stand side by side
+parents_of_word : (scheme : Scheme) (w j : ℕ) → 64 * w / branching scheme + j / branching scheme ≡ (64 * w + j) / branching scheme
+parents_of_word Quad w j = omega arith
+parents_of_word Oct w j = omega arith
+
+few_parents : (scheme : Scheme) (j : ℕ) → j < 64 → j / branching scheme < 64
+few_parents Quad j h = omega arith
+few_parents Oct j h = omega arith
+
+-- a digit that the other word doesn't have
+digit_alone : (c p : ℕ) → c < 2 → p < 2 → (eqb c 1 && not (eqb p 1)) ≡ eqb (min c (1 - p)) 1
+digit_alone zero zero ch ph = refl
+digit_alone zero (suc zero) ch ph = refl
+digit_alone (suc zero) zero ch ph = refl
+digit_alone (suc zero) (suc zero) ch ph = refl
+digit_alone (suc (suc c)) p ch ph = absurd (omega arith)
+digit_alone c (suc (suc p)) ch ph = absurd (omega arith)
+
+-- 64 nodes of a level from a place on, their parents, and those once for each child
+pub record AreWordsOf (scheme : Scheme) (bits : List Bool) (l w nodes parents each : ℕ) : Type 0 where
+  pub own : IsWordFrom bits (nodes_above scheme l + 64 * w) nodes
+  pub above : IsWordFrom bits (nodes_above scheme (l - 1) + 64 * w / branching scheme) parents
+  pub repeats : RepeatsBits (branching scheme) parents each
+  pub fits : each < 2 ^ 64
+
+orphan_digit : (scheme : Scheme) (bits : List Bool) (l w nodes parents each j : ℕ) → AreWordsOf scheme bits l w nodes parents each → j < 64
+    → raw_orphan scheme bits l (64 * w + j) ≡ eqb (digit_at (bit_and nodes (bit_not w64 each)) j) 1
+orphan_digit scheme bits l w nodes parents each j are h =
+    let m = 64 * w + j in
+    let own_place : nodes_above scheme l + 64 * w + j ≡ nodes_above scheme l + m = omega arith in
+    let own : raw_bit scheme bits l m ≡ eqb (digit_at nodes j) 1 = sym (are.own.digits j h ∙ ap (bit_at bits) own_place) in
+    let above_place : nodes_above scheme (l - 1) + 64 * w / branching scheme + j / branching scheme ≡ nodes_above scheme (l - 1) + m / branching scheme =
+    omega (arith, parents_of_word scheme w j) in
+    let above : raw_bit scheme bits (l - 1) (m / branching scheme) ≡ eqb (digit_at each j) 1 =
+    sym (ap (λ d. eqb d 1) (are.repeats j h) ∙ are.above.digits (j / branching scheme) (few_parents scheme j h) ∙ ap (bit_at bits) above_place) in
+    ap (λ b. b && not (raw_bit scheme bits (l - 1) (m / branching scheme))) own
+    ∙ ap (λ b. eqb (digit_at nodes j) 1 && not b) above
+    ∙ digit_alone (digit_at nodes j) (digit_at each j) (bit_at-lt nodes j) (bit_at-lt each j)
+    ∙ ap (λ d. eqb d 1) (sym (bit_at_and nodes (bit_not w64 each) j ∙ ap (λ d. min (digit_at nodes j) d) (bit_at_not w64 each j are.fits h)))
+
+-- none of a word's first nodes is without its parent
+pub none_in_word : (scheme : Scheme) (bits : List Bool) (l w nodes parents each : ℕ) → AreWordsOf scheme bits l w nodes parents each
+    → bit_and nodes (bit_not w64 each) % 2 ^ (branching scheme ^ l - 64 * w) ≡ 0
+    → NoOrphanBefore scheme bits l (64 * w) → NoOrphanBefore scheme bits l (64 * (w + 1))
+none_in_word scheme bits l w nodes parents each are none before m low within =
+    elim (cases_lt m (64 * w)) [
+      | inl old ↦ before m old within
+      | inr new ↦
+          let alone = bit_and nodes (bit_not w64 each) in
+          let k = branching scheme ^ l - 64 * w in
+          let j = m - 64 * w in
+          let place : 64 * w + j ≡ m = omega arith in
+          let digit : digit_at alone j ≡ 0 = sym (digit_of_low alone k j (omega arith)) ∙ no_digit (alone % 2 ^ k) j none in
+          ap (raw_orphan scheme bits l) (sym place) ∙ orphan_digit scheme bits l w nodes parents each j are (omega arith) ∙ ap (λ d. eqb d 1) digit
     ]
 
--- there is no further one
-pub none_left : (scheme : Scheme) (bits : List Bool) (l from end : ℕ) → NoOrphanBefore scheme bits l from → HasNoOne (bit_at bits) from end → NoOrphanBefore scheme bits l end
-none_left scheme bits l from end before gap m low =
-    elim (cases_lt (nodes_above scheme l + m) from) [
-      | inl old ↦ before m old
-      | inr new ↦ and_left (raw_bit scheme bits l m) (not (raw_bit scheme bits (l - 1) (m / branching scheme))) (gap (nodes_above scheme l + m) new low)
-    ]
-
--- the next node is one
-pub orphan_is : (scheme : Scheme) (bits : List Bool) (l k p : ℕ) → p ≡ k / branching scheme → raw_bit scheme bits l k ≡ true → raw_bit scheme bits (l - 1) p ≡ false
-    → raw_orphan scheme bits l k ≡ true
-orphan_is scheme bits l k p is one none =
-    and_from (raw_bit scheme bits l k) (not (raw_bit scheme bits (l - 1) (k / branching scheme))) one
-    (not_from_false (raw_bit scheme bits (l - 1) (k / branching scheme)) (ap (raw_bit scheme bits (l - 1)) (sym is) ∙ none))
-
--- the parent of the node at a place, by a shift
-parent_by_shift : (scheme : Scheme) (shift k : ℕ) → shift ≡ axes scheme → k / 2 ^ shift ≡ k / branching scheme
-parent_by_shift scheme shift k is = ap (λ e. k / 2 ^ e) is ∙ ap (λ e. k / e) (two_to_axes scheme)
-
-pub orphan_found : (scheme : Scheme) (bits : List Bool) (l first parents at shift place : ℕ)
-    → first ≡ nodes_above scheme l → parents ≡ nodes_above scheme (l - 1) → at ≡ branching scheme ^ l → shift ≡ axes scheme
-    → first ≤ place → place < first + at → bit_at bits place ≡ true → bit_at bits (parents + (place - first) / 2 ^ shift) ≡ false
+-- one of them is
+pub one_in_word : (scheme : Scheme) (bits : List Bool) (l w nodes parents each : ℕ) → AreWordsOf scheme bits l w nodes parents each
+    → bit_and nodes (bit_not w64 each) % 2 ^ (branching scheme ^ l - 64 * w) < 2 ^ 64 → 0 < bit_and nodes (bit_not w64 each) % 2 ^ (branching scheme ^ l - 64 * w)
     → (m : ℕ) × (m < branching scheme ^ l) × (raw_orphan scheme bits l m ≡ true)
-orphan_found scheme bits l first parents at shift place first_is parents_is at_is shift_is low high one none =
-    let same : nodes_above scheme l + (place - first) ≡ place = omega arith in (
-      place - first,
-      omega arith,
-      orphan_is scheme bits l (place - first) ((place - first) / 2 ^ shift) (parent_by_shift scheme shift (place - first) shift_is) (ap (bit_at bits) same ∙ one)
-          (ap (λ q. bit_at bits (q + (place - first) / 2 ^ shift)) (sym parents_is) ∙ none),
-    )
+one_in_word scheme bits l w nodes parents each are short some =
+    let alone = bit_and nodes (bit_not w64 each) in
+    let k = branching scheme ^ l - 64 * w in
+    let found = lowest_of (alone % 2 ^ k) some short in
+    let j = found.0 in
+    elim (cases_lt j k) [
+      | inl low ↦ (
+        64 * w + j,
+        omega arith,
+        orphan_digit scheme bits l w nodes parents each j are found.1 ∙ ap (λ d. eqb d 1) (sym (digit_of_low alone k j low) ∙ found.2),
+      )
+      | inr high ↦ absurd (omega (arith, found.2, digit_past_low alone k j high))
+    ]
 
--- where the search goes on
-pub record GoesOn (scheme : Scheme) (bits : List Bool) (l first at place next : ℕ) : Type 0 where
-  pub after : place < next
-  pub within : next ≤ first + at
-  pub before : NoOrphanBefore scheme bits l next
-
--- the product of the next parent's place, by a shift of a word
-pub behind_by_shift : (scheme : Scheme) (l shift k at : ℕ) → 1 ≤ l → at ≡ branching scheme ^ l → at ≤ 2 ^ 51 → shift ≡ axes scheme → k < at
-    → (k / 2 ^ shift + 1) * 2 ^ shift % 2 ^ 64 ≡ (k / branching scheme + 1) * branching scheme
-behind_by_shift scheme l shift k at one at_is few shift_is low =
-    let fits : (k / branching scheme + 1) * branching scheme < 2 ^ 64 =
-    omega (arith, behind_within scheme l k (k / branching scheme) one (subst (λ n. k < n) at_is low) refl) in
-    let whole : (n : ℕ) → n < 2 ^ 64 → n % 2 ^ 64 ≡ n = λ n h. omega arith in
-    ap (λ p. (p + 1) * 2 ^ shift % 2 ^ 64) (parent_by_shift scheme shift k shift_is)
-    ∙ ap (λ n. (k / branching scheme + 1) * n % 2 ^ 64) (ap (λ e. 2 ^ e) shift_is ∙ two_to_axes scheme)
-    ∙ whole ((k / branching scheme + 1) * branching scheme) fits
-
-pub goes_on : (scheme : Scheme) (bits : List Bool) (l first parents at shift from place : ℕ) → 1 ≤ l → at ≤ 2 ^ 51
-    → first ≡ nodes_above scheme l → parents ≡ nodes_above scheme (l - 1) → at ≡ branching scheme ^ l → shift ≡ axes scheme
-    → first ≤ place → place < first + at → NoOrphanBefore scheme bits l from → HasNoOne (bit_at bits) from place
-    → bit_at bits (parents + (place - first) / 2 ^ shift) ≡ true
-    → GoesOn scheme bits l first at place (first + ((place - first) / 2 ^ shift + 1) * 2 ^ shift % 2 ^ 64)
-goes_on scheme bits l first parents at shift from place one few first_is parents_is at_is shift_is low high before gap there =
-    let k = place - first in
-    let p = k / branching scheme in
-    let next = behind_by_shift scheme l shift k at one at_is few shift_is (omega arith) in
-    let short : k < branching scheme ^ l = subst (λ n. k < n) at_is (omega arith) in
-    let same : place ≡ nodes_above scheme l + k = omega arith in
-    let parent_there : raw_bit scheme bits (l - 1) p ≡ true =
-    ap (λ q. bit_at bits (q + p)) (sym parents_is) ∙ ap (λ q. bit_at bits (parents + q)) (sym (parent_by_shift scheme shift k shift_is)) ∙ there in
-    record {
-      after = omega (arith, next, behind_child scheme k p refl);
-      within = omega (arith, next, behind_within scheme l k p one short refl);
-      before = subst (NoOrphanBefore scheme bits l) (ap (λ n. n + (p + 1) * branching scheme) (sym first_is) ∙ ap (λ n. first + n) (sym next))
-          (none_behind scheme bits l from k p refl before (subst (HasNoOne (bit_at bits) from) same gap) parent_there);
-    }
-
--- the parent's place is one of the bits
-pub parent_place : (scheme : Scheme) (l first parents at shift place n : ℕ) → 1 ≤ l
-    → first ≡ nodes_above scheme l → parents ≡ nodes_above scheme (l - 1) → at ≡ branching scheme ^ l → shift ≡ axes scheme
-    → first ≤ place → place < first + at → nodes_above scheme (l + 1) ≤ n → parents + (place - first) / 2 ^ shift < n
-parent_place scheme l first parents at shift place n one first_is parents_is at_is shift_is low high within =
-    let k = place - first in
-    let short : k < branching scheme ^ l = subst (λ n. k < n) at_is (omega arith) in
-    let less : l - 1 < l + 1 = omega arith in
-    omega (arith, place_below scheme (l - 1) (l + 1) (k / branching scheme) less (parent_within scheme l k (k / branching scheme) one short refl), parent_by_shift scheme shift k shift_is)
+-- the words as the code reads them
+pub are_words : (scheme : Scheme) (bits : List Bool) (l w first parents shift nodes above each : ℕ) → first ≡ nodes_above scheme l → parents ≡ nodes_above scheme (l - 1) → shift ≡ axes scheme
+    → IsWordFrom bits (first + 64 * w) nodes → IsWordFrom bits (parents + 64 * w / 2 ^ shift) above → RepeatsBits (branching scheme) above each → each < 2 ^ 64
+    → AreWordsOf scheme bits l w nodes above each
+are_words scheme bits l w first parents shift nodes above each first_is parents_is shift_is own up repeats fits = record {
+  own = subst (λ n. IsWordFrom bits (n + 64 * w) nodes) first_is own;
+  above = subst (λ n. IsWordFrom bits (n + 64 * w / branching scheme) above) parents_is
+      (subst (λ n. IsWordFrom bits (parents + 64 * w / n) above) (ap (λ e. 2 ^ e) shift_is ∙ two_to_axes scheme) up);
+  repeats = repeats;
+  fits = fits;
+}

@@ -1,5 +1,5 @@
 -- The rules of a subtree's bits (OGC 22-025r4, implicit tiling: availability), as one answer and as facts of raw bits.
-use Rattle.std.specs.Prelude.{ℕ, ◌≡◌, ◌+◌, ◌-◌, ◌/◌, ◌^◌, ◌<◌, ◌≤◌, ◌&&◌, not, Bool, true, false, List, Result, Ok, Err, MatchBool}
+use Rattle.std.specs.Prelude.{ℕ, ◌≡◌, ◌+◌, ◌-◌, ◌/◌, ◌%◌, ◌^◌, ◌<◌, ◌≤◌, ◌&&◌, not, Bool, true, false, List, Result, Ok, Err, MatchBool}
 use Rattle.implicit_tiling.specs.declared.Scheme.{Scheme}
 use Rattle.implicit_tiling.specs.Tile.{branching}
 use Rattle.implicit_tiling.specs.Availability.{nodes_above}
@@ -16,6 +16,11 @@ fault_from false false = Ok tt
 
 abbrev pub rule_fault : Subtree → Result (Unit {0}) RuleFault
 rule_fault s = fault_from (has_orphan s) (has_content_alone s)
+
+-- the bits break no rule between them
+pub record KeepsRules (s : Subtree) : Type 0 where
+  pub no_orphan : has_orphan s ≡ false
+  pub no_content_alone : has_content_alone s ≡ false
 
 -- so many of the local levels stand below the levels in all
 pub record IsKeptCount (s : Subtree) (kept : ℕ) : Type 0 where
@@ -36,3 +41,7 @@ abbrev pub HasOrphanAt : Scheme → List Bool → ℕ → Bool → Type 0
 HasOrphanAt scheme bits l found = MatchBool found
     ((m : ℕ) × (m < branching scheme ^ l) × (raw_orphan scheme bits l m ≡ true))
     ((m : ℕ) → m < branching scheme ^ l → raw_orphan scheme bits l m ≡ false)
+
+-- each of the first bits of a word so many times, side by side, in a word of 64 bits
+abbrev pub RepeatsBits : ℕ → ℕ → ℕ → Type 0
+RepeatsBits times word repeated = (i : ℕ) → i < 64 → repeated / 2 ^ i % 2 ≡ word / 2 ^ (i / times) % 2

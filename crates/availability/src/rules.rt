@@ -1,14 +1,15 @@
-// What is read of a subtree's raw bits: masks, and the rules as searches of the ones.
-ghost use Rattle.std.specs.Prelude.{◌≡◌, ◌<◌, ◌≤◌, ◌+◌, length, map};
+// What is read of a subtree's raw bits: masks, and the rule of parents by words.
+ghost use Rattle.std.specs.Prelude.{◌≡◌, ◌<◌, ◌≤◌, length, map};
 ghost use Rattle.std.specs.List.{All};
 ghost use Rattle.implicit_tiling.specs.Limits.{most_subtree_levels, most_contents};
-ghost use Rattle.implicit_tiling.specs.Availability.{nodes_above as nodes_above_of};
+ghost use Rattle.implicit_tiling.specs.Tile.{branching};
 ghost use Rattle.implicit_tiling.specs.Subtree.{mask_of_bits};
 ghost use Rattle.implicit_tiling.specs.Bits.{bit_at};
-ghost use Rattle.availability.specs.Rules.{HasOrphanAt};
+ghost use Rattle.availability.specs.Rules.{HasOrphanAt, RepeatsBits};
 
 use crate::nodes::{nodes_above, nodes_at};
-use bitstream::Bits;
+use bitstream::{Bits, low_bits};
+use morton::index2;
 use tile_coords::Scheme;
 
 // The bits of each content at a place, the first of them lowest.
@@ -24,25 +25,41 @@ pub(crate) fn mask_at(contents: &[Bits], place: u64) -> u8
     mask
 }
 
-// Whether a node of this level has a 1, and its parent a 0. Each parent is looked at once: after the first of its
-// children that has a 1 the search goes on behind the last.
+// Whether a node of this level has a 1, and its parent a 0. 64 nodes are asked at once.
 pub(crate) fn has_orphan_at(scheme: Scheme, tiles: &Bits, local: u32) -> bool
     requires below { 1 ≤ local }
     requires few { local ≤ most_subtree_levels scheme }
-    requires within { nodes_above_of scheme (local + 1) ≤ length tiles.now }
     ensures { HasOrphanAt scheme tiles.now local result }
 {
     let parents = nodes_above(scheme, local - 1);
     let first = nodes_above(scheme, local);
-    let end = first + nodes_at(scheme, local);
-    let shift = scheme.axes();
-    let mut from = first;
-    while let Some(place) = tiles.next_one(from, end) {
-        let parent = (place - first) >> shift;
-        if !tiles.get(parents + parent) {
+    let nodes = nodes_at(scheme, local);
+    for word in 0..nodes.div_ceil(64) {
+        let index = 64 * word;
+        let above = tiles.word_from(parents + (index >> scheme.axes()));
+        let alone = tiles.word_from(first + index) & !for_each_child(scheme, above);
+        if low_bits(alone, nodes - index) != 0 {
             return true;
         }
-        from = first + ((parent + 1) << shift);
     }
     false
+}
+
+// Each of the first bits of a word as many times, side by side, as a tile has children.
+fn for_each_child(scheme: Scheme, word: u64) -> u64
+    ensures { RepeatsBits (branching scheme) word result }
+{
+    let four_times = twice(twice(word));
+    match scheme {
+        Scheme::Quad => four_times,
+        Scheme::Oct => twice(four_times),
+    }
+}
+
+// Each of the first 32 bits of a word twice.
+fn twice(word: u64) -> u64
+    ensures { RepeatsBits 2 word result }
+{
+    let half = (word & u64::from(u32::MAX)) as u32;
+    index2(half, half)
 }

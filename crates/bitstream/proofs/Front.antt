@@ -14,12 +14,12 @@ use Rattle.bitstream.proofs.Lists.{length-bits_of_bytes, bit_at-bits_of_bytes, b
 
 -- ---- a word and its lowest digits
 
-digit_of_low : (w k j : ℕ) → j < k → bit_at (w % 2 ^ k) j ≡ bit_at w j
+pub digit_of_low : (w k j : ℕ) → j < k → bit_at (w % 2 ^ k) j ≡ bit_at w j
 digit_of_low w k j low =
     let whole : w / 2 ^ k * 2 ^ k + w % 2 ^ k ≡ w = omega arith in
     sym (bit_at_cat_low (w / 2 ^ k) k (w % 2 ^ k) j low) ∙ ap (λ n. bit_at n j) whole
 
-digit_past_low : (w k j : ℕ) → k ≤ j → bit_at (w % 2 ^ k) j ≡ 0
+pub digit_past_low : (w k j : ℕ) → k ≤ j → bit_at (w % 2 ^ k) j ≡ 0
 digit_past_low w k j high = bit_at_above (w % 2 ^ k) k j (mod_below w (2 ^ k) (pow_pos k)) high
 
 -- ---- two words side by side, and what is left of them behind the first digits

@@ -9,7 +9,7 @@ use Rattle.implicit_tiling.specs.Answer.{End, complete, too_many, most_tiles, an
 use Rattle.implicit_tileset.specs.Scene.{scene_of}
 use Rattle.walk_laws.specs.Regions.{whole}
 use Rattle.std.specs.List.{All}
-use Rattle.subtree_write.specs.Reading.{KeepsRules}
+use Rattle.availability.specs.Rules.{KeepsRules}
 use Rattle.tile_occupancy.specs.Occupied.{tiles_of, IsOccupancy}
 use Rattle.build_laws.specs.Made.{made_subtree, made_roots}
 use Rattle.build_laws.specs.Holds.{HoldsTiles, AreWordsOf, HaveMadeFiles}

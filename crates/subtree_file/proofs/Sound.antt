@@ -1,4 +1,4 @@
--- What holds of a subtree that has none of the faults: it is one of the layout, and no node is without its parent.
+-- What holds of a subtree that has none of the faults: it is one of the layout, and its bits break no rule.
 use Rattle.std.proofs.Common.{◌≡◌, ℕ, ◌%◌, Bool, true, false, List, refl, subst, arith}
 use Rattle.std.specs.Prelude.{Option, Some, None, Result, Ok, Err, IfOk}
 use Rattle.std.specs.List.{list_any}
@@ -9,13 +9,14 @@ use Rattle.implicit_tiling.specs.Scene.{Layout}
 use Rattle.implicit_tiling.specs.Subtree.{Subtree, IsOf, has_orphan, has_content_alone}
 use Rattle.implicit_tileset.specs.Record.{Availability}
 use Rattle.implicit_tileset.specs.SubtreeFile.{Held, names_no_view, is_external, is_out, is_short, is_miscounted, wanted_contents, raw_bits, for_nodes, used_of, subtree_from, subtree_held, subtree_recorded}
+use Rattle.availability.specs.Rules.{KeepsRules}
 use Rattle.subtree_file.specs.declared.fault.DecodeFault.{DecodeFault}
 use Rattle.subtree_file.specs.Decoding.{Decodes}
 use Rattle.subtree_file.proofs.Whole.{few_wanted}
 
 pub record IsSound (layout : Layout) (s : Subtree) : Type 0 where
   pub of_layout : IsOf layout s
-  pub no_orphan : has_orphan s ≡ false
+  pub rules : KeepsRules s
 
 -- a row that was passed
 row : {B : Type 0} (number : ℕ) (test : Bool) (rest : Result B ℕ) (b : B) → refuse number test rest ≡ Ok b → (test ≡ false) × (rest ≡ Ok b)
@@ -45,7 +46,10 @@ sound_held layout root h contents s start wanted is =
     let r17 = row 17 (has_orphan made) _ s r16.1 in
     let r18 = row 18 (has_content_alone made) (Ok made) s r17.1 in
     let same : made ≡ s = cc in
-    subst (IsSound layout) same (record { of_layout = is_of layout root h contents start wanted; no_orphan = r17.0 })
+    subst (IsSound layout) same (record {
+      of_layout = is_of layout root h contents start wanted;
+      rules = record { no_orphan = r17.0; no_content_alone = r18.0 };
+    })
 
 by_contents : (layout : Layout) (root : Tile) (h : Held) (s : Subtree) (found : Option (List Availability)) → root.level % layout.subtree_levels ≡ 0
     → wanted_contents layout h.parts ≡ found → need 11 found (λ contents. subtree_held layout root h contents (used_of layout h.parts contents)) ≡ Ok s → IsSound layout s
@@ -61,6 +65,6 @@ pub of_layout : (layout : Layout) (result : Result Subtree DecodeFault) → IfOk
 of_layout layout (Ok s) is = is.of_layout
 of_layout layout (Err fault) is = tt
 
-pub no_orphan : (layout : Layout) (result : Result Subtree DecodeFault) → IfOk result (IsSound layout) → IfOk result (λ s. has_orphan s ≡ false)
-no_orphan layout (Ok s) is = is.no_orphan
-no_orphan layout (Err fault) is = tt
+pub rules : (layout : Layout) (result : Result Subtree DecodeFault) → IfOk result (IsSound layout) → IfOk result KeepsRules
+rules layout (Ok s) is = is.rules
+rules layout (Err fault) is = tt

@@ -1,8 +1,9 @@
 // Decoding a subtree file.
-ghost use Rattle.std.specs.Prelude.{◌≡◌, ◌%◌, ◌<◌, IfOk, false};
+ghost use Rattle.std.specs.Prelude.{◌≡◌, ◌%◌, ◌<◌, IfOk};
 ghost use Rattle.std.specs.List.{All};
 ghost use Rattle.implicit_tiling.specs.Tile.{IsTile};
-ghost use Rattle.implicit_tiling.specs.Subtree.{IsOf, has_orphan};
+ghost use Rattle.implicit_tiling.specs.Subtree.{IsOf};
+ghost use Rattle.availability.specs.Rules.{KeepsRules};
 ghost use Rattle.implicit_tileset.specs.SubtreeFile.{subtree_of, subtree_recorded};
 ghost use Rattle.subtree_file.specs.Decoding.{Decodes, IsNumbered, AreUsed, IsPlaced, subtree_counted};
 
@@ -22,9 +23,9 @@ use tileset_json::Layout;
 /// format, availability). Else the first fault of the file in the table of faults 3 to 18. A content past the
 /// templates and a view or a buffer that no used availability names are no faults, nor are bytes behind the parts.
 ///
-/// It takes one pass over the JSON and one over the used bits, and memory in proportion to them: of each view that is
-/// used the bytes of the needed bits are copied once. After `Memory` nothing is kept, and the same bytes can be
-/// decoded again.
+/// It takes one pass over the JSON. Of each view that is used the bytes of the needed bits are copied once; the copies
+/// are counted where a count is stated, and read again for the two rules. It takes memory in proportion to both. After
+/// `Memory` nothing is kept, and the same bytes can be decoded again.
 pub fn decode(
     alloc: Global,
     layout: &Layout,
@@ -36,7 +37,7 @@ pub fn decode(
     requires tile { IsTile layout.now.scheme root }
     ensures stated { Decodes (subtree_of layout.now root bytes.now) result }
     ensures of_layout { IfOk result (IsOf layout.now) }
-    ensures no_orphan { IfOk result (λ s. has_orphan s ≡ false) }
+    ensures rules { IfOk result KeepsRules }
     ensures numbered { IsNumbered result }
 {
     let parts = read_parts(bytes)?;

@@ -16,7 +16,8 @@ use Rattle.implicit_tiling.specs.Subtree.{Subtree, IsSubtree, IsOf, node_count, 
 use Rattle.implicit_tileset.specs.Record.{Availability, well_formed, SubtreeRecord, record_of}
 use Rattle.implicit_tileset.specs.SubtreeFile.{Used, Held, names_no_view, is_external, is_out, is_short, is_miscounted, raw_bits, parts_of, and_then, availabilities, used_of, subtree_from, subtree_checked, subtree_held, subtree_recorded, subtree_of, outcome_from, outcome_in}
 use Rattle.subtree_write.specs.Canonical.{aligned, padded, is_mixed, streams_of, availabilities_of, streams, binary, stream_bytes, view_values, availability_value, availability_values, json_value, json_part, file_of, canonical}
-use Rattle.subtree_write.specs.Reading.{KeepsRules, CanonicalFilesReadBack, CanonicalFilesAreGood}
+use Rattle.availability.specs.Rules.{KeepsRules}
+use Rattle.subtree_write.specs.Reading.{CanonicalFilesReadBack, CanonicalFilesAreGood}
 use Rattle.subtree_write.proofs.Added.{length-padded, length-stream}
 use Rattle.bitstream.specs.Bytes.{bytes_filled, bytes_of_bits}
 use Rattle.subtree_write.proofs.Texts.{ReadsAs, ItemsRead, json_of-text, reads_more}

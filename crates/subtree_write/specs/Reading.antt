@@ -1,14 +1,10 @@
 -- A canonical file holds its subtree (OGC 22-025r4, subtree binary format, subtree JSON format).
-use Rattle.std.specs.Prelude.{◌≡◌, false, Some, Ok}
+use Rattle.std.specs.Prelude.{◌≡◌, Some, Ok}
 use Rattle.implicit_tiling.specs.Scene.{Layout, good}
-use Rattle.implicit_tiling.specs.Subtree.{Subtree, IsSubtree, IsOf, has_orphan, has_content_alone, bits_of}
+use Rattle.implicit_tiling.specs.Subtree.{Subtree, IsSubtree, IsOf, bits_of}
 use Rattle.implicit_tileset.specs.SubtreeFile.{subtree_of, outcome_in}
+use Rattle.availability.specs.Rules.{KeepsRules}
 use Rattle.subtree_write.specs.Canonical.{canonical}
-
--- the bits break no rule between them
-pub record KeepsRules (s : Subtree) : Type 0 where
-  pub no_orphan : has_orphan s ≡ false
-  pub no_content_alone : has_content_alone s ≡ false
 
 -- for a layout that the subtree is of, its canonical file has no fault, and holds the subtree with all its bits
 abbrev pub CanonicalFilesReadBack : Type 0

@@ -1,5 +1,5 @@
 use Rattle.implicit_tileset.specs.SubtreeFile.{Held}
-use Rattle.subtree_file.proofs.Sound.{sound, of_layout, no_orphan}
+use Rattle.subtree_file.proofs.Sound.{sound, of_layout, rules}
 use Rattle.subtree_file.proofs.subtree.decode.Goals as goal
 
 pub returns-clause-of_layout : goal.returns-clause-of_layout
@@ -7,7 +7,7 @@ returns-clause-of_layout c =
     let h : Held = record { parts = c.in_ok-stated.stated; binary = c.in_ok-parts.parts.binary.now } in
     of_layout c.args.layout.now c.decode_held.result (sound c.args.layout.now c.args.root h c.decode_held.result c.requires.start c.decode_held.ensures)
 
-pub returns-clause-no_orphan : goal.returns-clause-no_orphan
-returns-clause-no_orphan c =
+pub returns-clause-rules : goal.returns-clause-rules
+returns-clause-rules c =
     let h : Held = record { parts = c.in_ok-stated.stated; binary = c.in_ok-parts.parts.binary.now } in
-    no_orphan c.args.layout.now c.decode_held.result (sound c.args.layout.now c.args.root h c.decode_held.result c.requires.start c.decode_held.ensures)
+    rules c.args.layout.now c.decode_held.result (sound c.args.layout.now c.args.root h c.decode_held.result c.requires.start c.decode_held.ensures)

@@ -17,7 +17,7 @@ pub returns-in-Ok-clause-found : goal.returns-in-Ok-clause-found
 returns-in-Ok-clause-found g c = record {
   of_layout = c.in-Ok.ensures.of_layout;
   at_root = stated_root c.args.layout.now c.args.root c.deref.result.now c.in-Ok.subtree c.in-Ok.ensures.stated;
-  no_orphan = c.in-Ok.ensures.no_orphan;
+  no_orphan = c.in-Ok.ensures.rules.no_orphan;
 }
 
 pub returns-in-Err-Fault-clause-told : goal.returns-in-Err-Fault-clause-told

@@ -1,10 +1,6 @@
 use Rattle.std.proofs.Common.{arith, sym}
-use Rattle.availability.proofs.Checks.{kept_end, orphan_seen, no_orphan, tiles_long, full_has_no_orphan}
+use Rattle.availability.proofs.Checks.{orphan_seen, no_orphan, tiles_long, full_has_no_orphan}
 use Rattle.availability.proofs.subtree.Subtree.has_orphan.Goals as goal
-
-pub has_orphan_at-requires-clause-within : goal.has_orphan_at-requires-clause-within
-has_orphan_at-requires-clause-within c =
-    kept_end _ _ c.kept_levels-kept.result c.loop-local.local c.self.view_is c.self.invariant c.kept_levels-kept.ensures c.loop-local-test.true
 
 pub returns-then-has_orphan_at : goal.returns-then-has_orphan_at
 returns-then-has_orphan_at c =
