@@ -6,9 +6,9 @@ use Rattle.std.specs.Fmt.{digits}
 use Rattle.serde_json.proofs.OnLiterals.{serde_json_on_literals}
 use Rattle.implicit_tiling.specs.Files.{Files}
 use Rattle.implicit_tiling.specs.Scene.{Layout}
-use Rattle.implicit_tiling.specs.Request.{line_of}
-use Rattle.implicit_tiling.specs.Text.{line}
-use Rattle.implicit_tileset.specs.Scene.{layout_in, line_text}
+use Rattle.implicit_tiling.specs.Request.{line_of, plan_of_line}
+use Rattle.implicit_tiling.specs.Text.{line, text_of}
+use Rattle.implicit_tileset.specs.Scene.{scene_of, layout_in}
 
 tileset : List ℕ
 tileset = codes "{\"asset\":{\"version\":\"1.1\"},\"geometricError\":100,\"root\":{\"boundingVolume\":{\"box\":[0,0,0,7,0,0,0,7,0,0,0,7]},\"geometricError\":50,\"refine\":\"REPLACE\",\"content\":{\"uri\":\"c/{level}/{x}/{y}.glb\"},\"implicitTiling\":{\"subdivisionScheme\":\"QUADTREE\",\"subtreeLevels\":2,\"availableLevels\":2,\"subtrees\":{\"uri\":\"s/{level}/{x}/{y}.subtree\"}}}}"
@@ -20,7 +20,7 @@ files : Files
 files = (codes "tileset.json", tileset) ∷ (codes "s/0/0/0.subtree", subtree) ∷ []
 
 text : Result Layout ℕ → List ℕ → List ℕ
-text (Ok layout) request = line_text files layout (line_of request)
+text (Ok layout) request = text_of (scene_of files layout) (plan_of_line layout.scheme layout.levels (line_of request))
 text (Err n) request = n ∷ []
 
 whole_box : text (layout_in files) (codes "1 0,0 1,1") ≡

@@ -1,13 +1,10 @@
--- What a list of files holds, and the text of a request line over it (OGC 22-025r4, implicit tiling: subtrees; lines and
--- texts are this project's own).
-use Rattle.std.specs.Prelude.{ℕ, List, Option, codes, Result}
+-- What a list of files holds (OGC 22-025r4, implicit tiling: subtrees).
+use Rattle.std.specs.Prelude.{ℕ, List, codes, Result}
 use Rattle.implicit_tiling.specs.Files.{Files, file}
 use Rattle.implicit_tiling.specs.Template.{filled}
 use Rattle.implicit_tiling.specs.Checks.{need}
 use Rattle.implicit_tiling.specs.Tile.{Tile}
 use Rattle.implicit_tiling.specs.Scene.{Layout, Scene}
-use Rattle.implicit_tiling.specs.Request.{Line, plan_of_line}
-use Rattle.implicit_tiling.specs.Text.{text_of}
 use Rattle.implicit_tileset.specs.Tileset.{layout_of}
 use Rattle.implicit_tileset.specs.SubtreeFile.{outcome_in}
 
@@ -21,7 +18,3 @@ scene_of files layout = record { layout = layout; outcome = λ r. outcome_in lay
 -- the layout of the files, or the first fault of `tileset.json`
 abbrev pub layout_in : Files → Result Layout ℕ
 layout_in files = need 1 (file (codes "tileset.json") files) layout_of
-
--- the text of a line over the files of a layout
-abbrev pub line_text : Files → Layout → Option Line → List ℕ
-line_text files layout line = text_of (scene_of files layout) (plan_of_line layout.scheme layout.levels line)
