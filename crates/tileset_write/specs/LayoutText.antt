@@ -1,12 +1,13 @@
 -- The text of a `tileset.json` for a layout: of the texts that state the layout this one is written (OGC 22-025r4,
 -- implicit tiling: implicit root tile, subtrees; the choice is this project's own).
-use Rattle.std.specs.Prelude.{ℕ, ◌≡◌, List, [], ◌∷◌, map, codes, IsTrue, IsUtf8, Ok}
+use Rattle.std.specs.Prelude.{ℕ, ◌≡◌, ◌≤◌, List, [], ◌∷◌, map, length, codes, IsTrue, IsUtf8, Ok}
 use Rattle.std.specs.List.{All}
 use Rattle.serde_json.specs.Data.{Data, number, unsigned, string, array, object, Members, no_members, member}
 use Rattle.serde_json.specs.View.{items_of}
 use Rattle.serde_json.specs.Written.{compact_text}
 use Rattle.implicit_tiling.specs.declared.Scheme.{Scheme}
 use Rattle.implicit_tiling.specs.declared.Scheme.TheVariants.{Quad, Oct}
+use Rattle.implicit_tiling.specs.Limits.{most_file_bytes}
 use Rattle.implicit_tiling.specs.Scene.{Layout}
 use Rattle.implicit_tileset.specs.Tileset.{is_template, layout_of}
 use Rattle.tileset_json.specs.Limits.{IsWithinLimits}
@@ -82,3 +83,7 @@ pub record IsLayout (layout : Layout) : Type 0 where
 -- the text of a layout states the layout, without a fault
 abbrev pub LayoutTextsReadBack : Type 0
 LayoutTextsReadBack = (layout : Layout) → IsLayout layout → layout_of (layout_text layout) ≡ Ok layout
+
+-- the text of a layout fits a file
+abbrev pub LayoutTextsAreShort : Type 0
+LayoutTextsAreShort = (layout : Layout) → IsLayout layout → length (layout_text layout) ≤ most_file_bytes
