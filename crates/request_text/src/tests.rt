@@ -149,7 +149,10 @@ fn answer_to(
 }
 
 fn length_of(layout: &Layout, words: &[Word], end: WalkEnd) -> Option<u64> {
-    if !are_words(layout.scheme, words) || !ends_at_root(layout.scheme, end) || words.len() > 65536 {
+    if !are_words(layout.scheme, words)
+        || !ends_at_root(layout.scheme, end)
+        || words.len() > 65536
+    {
         return None;
     }
     Some(answer_length(layout, words, end))
