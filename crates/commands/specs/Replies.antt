@@ -1,8 +1,7 @@
 -- What is written back over given files, how the program ends, and what it leaves of files that are kept (this project's own).
-use Rattle.std.specs.Prelude.{ℕ, ◌≡◌, ◌⊎◌, nat_lt, Bool, true, false, List, [], ◌∷◌, length, codes, Option, Some, None, option_map, Result, Ok, Err, if◌then◌else◌}
+use Rattle.std.specs.Prelude.{ℕ, ◌≡◌, ◌⊎◌, Bool, true, false, List, [], ◌∷◌, length, Option, Some, None, option_map, Result, Ok, Err}
 use Rattle.std.specs.Io.KnownBytes.{Appends, Keeps}
-use Rattle.implicit_tiling.specs.Limits.{most_file_bytes}
-use Rattle.implicit_tiling.specs.Files.{Files, file}
+use Rattle.implicit_tiling.specs.Files.{Files}
 use Rattle.implicit_tiling.specs.Region.{Plan}
 use Rattle.implicit_tiling.specs.Request.{line_of, plan_of_line}
 use Rattle.implicit_tiling.specs.Tile.{Tile}
@@ -10,7 +9,6 @@ use Rattle.implicit_tiling.specs.Scene.{Layout, Scene}
 use Rattle.implicit_tiling.specs.Answer.{End, complete, too_many, fault, answer}
 use Rattle.implicit_tiling.specs.Checked.{checked}
 use Rattle.implicit_tiling.specs.Text.{text_of, checked_text}
-use Rattle.implicit_tileset.specs.Tileset.{layout_of}
 use Rattle.implicit_tileset.specs.Scene.{scene_of, layout_in as layout_of_files}
 use Rattle.scene_ports.specs.Output.{GivesFront}
 use Rattle.tile_coords.specs.declared.walk_end.WalkEnd.{WalkEnd}
@@ -65,17 +63,13 @@ make_reply r = record { status = Done; text = made_text (length (recipe_files r)
 abbrev pub survey_reply : Recipe → Reply
 survey_reply r = record { status = Done; text = survey_text (survey_of r).files (survey_of r).tiles (survey_of r).listed (survey_of r).contents (survey_of r).more }
 
--- the layout of `tileset.json`, or the status of its first fault: 1 there is no such file, 2 it is too long
+-- the layout of `tileset.json`, or the status of its first fault
 abbrev pub layout_or_status : Result Layout ℕ → Result Layout Status
 layout_or_status (Ok layout) = Ok layout
 layout_or_status (Err number) = Err (BadLayout number)
 
-abbrev pub layout_from : Option (List ℕ) → Result Layout Status
-layout_from None = Err (BadLayout 1)
-layout_from (Some bytes) = if nat_lt most_file_bytes (length bytes) then Err (BadLayout 2) else layout_or_status (layout_of bytes)
-
 abbrev pub layout_in : Files → Result Layout Status
-layout_in files = layout_from (file (codes "tileset.json") files)
+layout_in files = layout_or_status (layout_of_files files)
 
 abbrev pub reply_over : (Scene → Reply) → Files → Result Layout Status → Result Reply Status
 reply_over of files (Ok layout) = Ok (of (scene_of files layout))

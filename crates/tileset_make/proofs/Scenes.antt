@@ -1,7 +1,9 @@
 -- Scenes of files that are looked up alike.
 use Rattle.std.proofs.Common.{◌≡◌, ◌≢◌, ℕ, List, codes, ap, sym, subst, ◌∙◌}
-use Rattle.std.specs.Prelude.{Ok}
-use Rattle.implicit_tiling.specs.Checks.{need}
+use Rattle.std.specs.Prelude.{Ok, length, nat_lt}
+use Rattle.std.proofs.lemmas.Bool.{le-ltb}
+use Rattle.implicit_tiling.specs.Checks.{need, refuse}
+use Rattle.implicit_tiling.specs.Limits.{most_file_bytes}
 use Rattle.implicit_tiling.specs.Files.{Files, file}
 use Rattle.implicit_tiling.specs.Tile.{Tile}
 use Rattle.implicit_tiling.specs.Scene.{Layout, Scene}
@@ -12,6 +14,7 @@ use Rattle.scene_ports.specs.Keeper.{SameButFor, Puts}
 use Rattle.scene_ports.specs.declared.keeper.Put.TheVariants.{Kept}
 use Rattle.tileset_write.specs.LayoutText.{layout_text, IsLayout}
 use Rattle.tileset_write.proofs.LayoutStated.{layout_texts_read_back}
+use Rattle.tileset_write.proofs.LayoutShort.{layout_texts_are_short}
 use Rattle.build_laws.specs.Holds.{HoldsTiles}
 
 -- where each subtree file is the same, so is the scene
@@ -28,4 +31,7 @@ still_hold layout name words mid now apart same holds =
 
 -- the text of a layout is read as the layout
 pub layout_read : (layout : Layout) (mid now : Files) → IsLayout layout → Puts (codes "tileset.json") (layout_text layout) mid now Kept → layout_in now ≡ Ok layout
-layout_read layout mid now is put = ap (λ found. need 1 found layout_of) put.0 ∙ layout_texts_read_back layout is
+layout_read layout mid now is put =
+    ap (λ found. need 1 found (λ bytes. refuse 2 (nat_lt most_file_bytes (length bytes)) (layout_of bytes))) put.0
+    ∙ ap (λ long. refuse 2 long (layout_of (layout_text layout))) (le-ltb most_file_bytes (length (layout_text layout)) (layout_texts_are_short layout is))
+    ∙ layout_texts_read_back layout is
