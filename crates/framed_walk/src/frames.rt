@@ -5,12 +5,11 @@ ghost use Rattle.scene_ports.specs.Counts.{Rose};
 ghost use Rattle.tile_walk.specs.Roots.{IsRootWord};
 ghost use Rattle.framed_walk.specs.Frames.{IsOutcomeOf, AreAtRest, IsHeld};
 
-use availability::tile_of;
 use frame_pool::{Asked, Pool};
 use scene_ports::FileSource;
 use std::alloc::Global;
 use tile_coords::Word;
-use tile_walk::{Outcome, WalkStop, read_subtree};
+use tile_walk::{Outcome, WalkStop, read_subtree, root_tile};
 use tileset_json::Layout;
 
 // The frame with the outcome of a key, which has one pin until the turn ends. The outcome is read where no frame holds it.
@@ -60,8 +59,5 @@ fn read<S: FileSource>(
     ensures later { S.faults files.old ≤ S.faults files.new }
     ensures same { S.told files.new ≡ S.told files.old }
 {
-    let Some(found) = tile_of(layout.scheme, key) else {
-        unreachable!()
-    };
-    read_subtree(alloc, files, layout, found.tile)
+    read_subtree(alloc, files, layout, root_tile(layout, key))
 }

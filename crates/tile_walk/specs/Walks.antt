@@ -4,8 +4,7 @@ use Rattle.implicit_tiling.specs.declared.Scheme.{Scheme}
 use Rattle.implicit_tiling.specs.Tile.{Tile}
 use Rattle.implicit_tiling.specs.Region.{Region}
 use Rattle.implicit_tiling.specs.Scene.{Layout, Scene, fault_of}
-use Rattle.implicit_tiling.specs.Code.{tile_word, word_tile, IsWord, word}
-use Rattle.implicit_tiling.specs.Availability.{mask}
+use Rattle.implicit_tiling.specs.Code.{tile_word, word_tile}
 use Rattle.implicit_tiling.specs.Answer.{is_on_walk, most_tiles, answer}
 use Rattle.implicit_tiling.specs.Steps.{Pair, pair_of, pair_fault, ended}
 use Rattle.walk_laws.specs.Children.{roots_below}

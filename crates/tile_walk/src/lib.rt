@@ -10,4 +10,5 @@ mod tileset;
 
 pub use outcome::{Outcome, WalkStop, read_subtree};
 pub use region::fresh;
+pub use step::root_tile;
 pub use tileset::{check_all, whole_plan};

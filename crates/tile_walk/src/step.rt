@@ -1,7 +1,7 @@
 // One local level of one subtree.
 ghost use Rattle.std.specs.Prelude.{◌≡◌, ◌+◌, ◌%◌, ◌<◌, ◌≤◌, ◌++◌, ◌∷◌, [], map, true, IfOk, IfSome, Ok, Err, length};
 ghost use Rattle.implicit_tiling.specs.Answer.{most_tiles};
-ghost use Rattle.implicit_tiling.specs.Code.{word_level, word_tile};
+ghost use Rattle.implicit_tiling.specs.Code.{word_level, word_tile as word_tile_of};
 ghost use Rattle.implicit_tiling.specs.Subtree.{IsSubtree};
 ghost use Rattle.implicit_tiling.specs.Steps.{root_level};
 ghost use Rattle.implicit_tileset.specs.Scene.{scene_of};
@@ -13,7 +13,7 @@ ghost use Rattle.implicit_tiling.specs.Availability.{IsRootOf};
 ghost use Rattle.tile_walk.specs.Walks.{Walks, word_pair, next_roots, AreFound, IsWalked};
 
 use crate::outcome::{Outcome, WalkStop, read_subtree};
-use availability::{Subtree, tile_of};
+use availability::{Subtree, word_tile};
 use region_scan::{child_roots, level_tiles};
 use scene_ports::FileSource;
 use std::alloc::{AllocError, Global};
@@ -41,7 +41,7 @@ pub(crate) fn step<S: FileSource>(
     requires next { AreRoots layout.now (level + 1) next.old.items }
     requires on_walk { IfSome (S.told files.old) (λ all. IsWalked (scene_of all layout.now) region.now level root) }
     ensures walks { IfSome (S.told files.old) (λ all. IfOk result (Walks (scene_of all layout.now) region.now (word_pair layout.now.scheme level root ∷ []) words.old.items words.new.items)) }
-    ensures roots { IfSome (S.told files.old) (λ all. IfOk result (λ end. end ≡ WalkEnd.Partial → map (word_tile layout.now.scheme) next.new.items ≡ map (word_tile layout.now.scheme) next.old.items ++ next_roots (scene_of all layout.now) region.now level (word_tile layout.now.scheme root))) }
+    ensures roots { IfSome (S.told files.old) (λ all. IfOk result (λ end. end ≡ WalkEnd.Partial → map (word_tile_of layout.now.scheme) next.new.items ≡ map (word_tile_of layout.now.scheme) next.old.items ++ next_roots (scene_of all layout.now) region.now level (word_tile_of layout.now.scheme root))) }
     ensures found { IfOk result (λ end. AreFound layout.now.scheme words.new.items) }
     ensures next { IfOk result (λ end. AreRoots layout.now (level + 1) next.new.items) }
     ensures end { IfOk result (EndsAtRoot layout.now.scheme) }
@@ -60,18 +60,15 @@ pub(crate) fn step<S: FileSource>(
     }
 }
 
-// The tile of a root's word.
-pub(crate) fn root_tile(layout: &Layout, root: Word) -> Tile
+/// The tile of a root's word: one with which a subtree of the layout may begin.
+pub fn root_tile(layout: &Layout, root: Word) -> Tile
     requires { IsRootWord layout.now (word_level root) root }
-    ensures tile { result ≡ word_tile layout.now.scheme root }
+    ensures tile { result ≡ word_tile_of layout.now.scheme root }
     ensures root { IsRootOf layout.now result }
     ensures level { result.level ≡ word_level root }
     ensures some_levels { 1 ≤ layout.now.subtree_levels }
 {
-    let Some(found) = tile_of(layout.scheme, root) else {
-        unreachable!()
-    };
-    found.tile
+    word_tile(layout.scheme, root)
 }
 
 // Appends the words of a local level's tiles in the region, as far as an answer holds them, and in the last level the child

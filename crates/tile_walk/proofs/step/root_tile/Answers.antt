@@ -4,21 +4,20 @@ use Rattle.implicit_tiling.specs.declared.Scheme.{Scheme}
 use Rattle.implicit_tiling.specs.Tile.{Tile, IsTile}
 use Rattle.implicit_tiling.specs.Scene.{Layout}
 use Rattle.implicit_tiling.specs.Availability.{local_level}
-use Rattle.implicit_tiling.specs.Code.{word_level, word_index}
-use Rattle.tiling_laws.proofs.TileAt.{tile_at_level}
+use Rattle.availability.proofs.Tiles.{word_tile_level}
 use Rattle.tile_walk.proofs.step.root_tile.Goals as goal
 
 pub returns-clause-level : goal.returns-clause-level
-returns-clause-level c = ap (λ (t : Tile). t.level) c.in-Some.ensures.tile ∙ tile_at_level c.layout.inside.scheme (word_level c.args.root) (word_index c.args.root)
+returns-clause-level c = ap (λ (t : Tile). t.level) c.word_tile.ensures.tile ∙ word_tile_level c.layout.inside.scheme c.args.root
 
 pub returns-clause-root : goal.returns-clause-root
 returns-clause-root c =
     let scheme = ap (λ (l : Layout). l.scheme) c.layout.view_is in
-    let level = ap (λ (t : Tile). t.level) c.in-Some.ensures.tile ∙ tile_at_level c.layout.inside.scheme (word_level c.args.root) (word_index c.args.root) in
+    let level = ap (λ (t : Tile). t.level) c.word_tile.ensures.tile ∙ word_tile_level c.layout.inside.scheme c.args.root in
     record {
-      is_tile = let P : Scheme → Type 0 = λ e. IsTile e c.in-Some.found.tile in subst P scheme c.in-Some.ensures.is_tile;
+      is_tile = let P : Scheme → Type 0 = λ e. IsTile e c.word_tile.result in subst P scheme c.word_tile.ensures.is_tile;
       within = omega (arith, level, c.requires.below);
-      at_start = eq-eqb (local_level c.args.layout.now c.in-Some.found.tile) 0 (ap (λ l. l % c.args.layout.now.subtree_levels) level ∙ c.requires.at_start);
+      at_start = eq-eqb (local_level c.args.layout.now c.word_tile.result) 0 (ap (λ l. l % c.args.layout.now.subtree_levels) level ∙ c.requires.at_start);
     }
 
 pub returns-clause-some_levels : goal.returns-clause-some_levels
