@@ -1,6 +1,6 @@
 -- What was told of files, as what is wanted; and plans that fit.
 use Rattle.std.proofs.Common.{◌≡◌, ℕ, ◌<◌, ◌≤◌, Bool, true, false, List, [], ◌∷◌, length, refl, sym, ap, subst, ◌∙◌, arith, inl, inr, ◌⊎◌}
-use Rattle.commands.specs.Words.{Wish}
+use Rattle.commands.specs.Words.{Wish, tiles}
 use Rattle.std.specs.Prelude.{Option, Some, None, IfSome, Result, Ok, Err, IsTrue, ◌↔◌, if◌then◌else◌, nat_lt, nat_le, not, ◌^◌, ◌==◌, ◌&&◌, slice_index, map}
 use Rattle.std.specs.Io.KnownBytes.{Appends}
 use Rattle.std.proofs.KnownBytes.{Appends-nil, Keeps-refl}
@@ -34,7 +34,7 @@ use Rattle.request_text.proofs.Found.{found_make_the_text}
 use Rattle.request_text.proofs.Words.{words_make_the_text}
 use Rattle.commands.specs.declared.status.Status.{Status}
 use Rattle.commands.specs.declared.status.Status.TheVariants.{Done, Faulted, Usage, BadLayout, ReadFault, WriteFault, InputFault, Memory, InputLong}
-use Rattle.commands.specs.Replies.{Reply, end_status, walk_status, found_status, plan_reply, check_reply, layout_in, reply_over, reply_in, reply_wanted, puts_files, Agrees, IsGiven, IsBegun, Replies}
+use Rattle.commands.specs.Replies.{Reply, end_status, walk_status, found_status, plan_reply, line_reply, check_reply, layout_in, reply_over, reply_in, reply_wanted, puts_files, Agrees, IsGiven, IsBegun, Replies}
 use Rattle.tile_walk.specs.Plans.{FitsLayout}
 use Rattle.tile_walk.specs.Walks.{IsAnswer}
 use Rattle.implicit_tiling.specs.Code.{tile_word}
@@ -206,6 +206,11 @@ pub told_found : (told : Option Files) (of : Scene → Reply) (layout : Layout) 
 told_found None of layout P agrees h = tt
 told_found (Some all) of layout P agrees h =
     let Q : Result Layout Status → Type 0 = λ w. P (reply_over of all w) in subst Q (sym agrees) h
+
+-- what is wanted by a line is the reply to it
+pub line_wanted : (told : Option Files) (wish : Wish) (line : List ℕ) (P : Result Reply Status → Type 0) → wish ≡ tiles line
+    → IfSome (reply_in (λ s. line_reply s line) told) P → IfSome (reply_wanted told (Some wish)) P
+line_wanted told wish line P is h = let Q : Wish → Type 0 = λ w. IfSome (reply_wanted told (Some w)) P in subst Q (sym is) h
 
 -- a fact of what is wanted, whatever it is
 pub of_wanted : (wanted : Option (Result Reply Status)) (P : Result Reply Status → Type 0) → ((w : Result Reply Status) → P w) → IfSome wanted P

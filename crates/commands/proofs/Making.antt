@@ -1,5 +1,5 @@
 -- What is left of the files that were kept, and fronts of the texts of what was made.
-use Rattle.std.proofs.Common.{◌≡◌, ℕ, List, [], ◌++◌, length, refl, sym, ap₂, subst, append-nil, inl, inr, ◌⊎◌}
+use Rattle.std.proofs.Common.{◌≡◌, ℕ, List, [], length, refl, sym, ap₂, subst, append-nil, inl, inr, ◌⊎◌}
 use Rattle.std.specs.Prelude.{Option, Some, None, Ok}
 use Rattle.std.proofs.KnownBytes.{Keeps-refl}
 use Rattle.implicit_tiling.specs.Files.{Files}

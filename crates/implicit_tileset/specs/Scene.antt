@@ -1,5 +1,5 @@
 -- What a list of files holds (OGC 22-025r4, implicit tiling: subtrees).
-use Rattle.std.specs.Prelude.{ℕ, List, Option, codes, length, nat_lt, Result}
+use Rattle.std.specs.Prelude.{ℕ, List, codes, length, nat_lt, Result}
 use Rattle.implicit_tiling.specs.Files.{Files, file}
 use Rattle.implicit_tiling.specs.Template.{filled}
 use Rattle.implicit_tiling.specs.Checks.{need, refuse}

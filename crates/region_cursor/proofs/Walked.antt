@@ -1,6 +1,6 @@
 -- A step from an outcome of a scene is the step of the walk over the scene.
 use Rattle.std.proofs.Common.{◌≡◌, ℕ, ◌+◌, ◌-◌, ◌%◌, ◌^◌, ◌<◌, ◌≤◌, Bool, true, false, List, [], ◌∷◌, ◌++◌, Option, Some, None, length, get_or, take, map, refl, sym, ap, subst, ◌∙◌, arith, append-nil, length-append, inl, inr}
-use Rattle.std.specs.Prelude.{◌&&◌, ◌==◌, nat_lt, slice_index, IsSome, IsSomeAnd}
+use Rattle.std.specs.Prelude.{◌&&◌, nat_lt, slice_index, IsSome, IsSomeAnd}
 use Rattle.std.specs.List.{flat_map, range_with_len, Contains}
 use Rattle.std.proofs.lemmas.Nat.{mod_below}
 use Rattle.std.proofs.lemmas.Bool.{and_parts, ltb-true, ltb-false, lt-ltb, le-ltb, eqb-true, cases_eq}
@@ -18,7 +18,7 @@ use Rattle.implicit_tiling.specs.Answer.{most_tiles, too_many, fault}
 use Rattle.implicit_tiling.specs.Subtree.{Subtree, IsSubtree, bits_of, has_orphan}
 use Rattle.implicit_tiling.specs.Code.{word, word_tile, tile_word}
 use Rattle.implicit_tiling.specs.Nodes.{level_words, child_words}
-use Rattle.implicit_tiling.specs.Steps.{Pair, pair_of, walk_roots, segment, pair_fault, last_or_not, ended, Step, step_then, steps, steps_from}
+use Rattle.implicit_tiling.specs.Steps.{pair_of, walk_roots, segment, pair_fault, last_or_not, ended, Step, step_then, steps, steps_from}
 use Rattle.tile_coords.specs.Ends.{end_seen}
 use Rattle.tile_coords.specs.declared.walk_end.WalkEnd.{WalkEnd}
 use Rattle.tile_coords.specs.declared.walk_end.WalkEnd.TheVariants.{TooMany, Fault}

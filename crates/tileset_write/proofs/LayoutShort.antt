@@ -1,5 +1,5 @@
 -- The text of a layout fits a file.
-use Rattle.std.proofs.Common.{◌≡◌, ℕ, suc, ◌+◌, ◌*◌, ◌<◌, ◌≤◌, ◌^◌, Bool, true, false, cond, nat_lt, List, [], ◌∷◌, ◌++◌, map, length, decimal, codes, length-append, refl, sym, subst, arith}
+use Rattle.std.proofs.Common.{◌≡◌, ℕ, suc, ◌+◌, ◌*◌, ◌<◌, ◌≤◌, Bool, true, false, cond, nat_lt, List, [], ◌∷◌, ◌++◌, map, length, codes, length-append, refl, sym, subst, arith}
 use Rattle.std.specs.List.{All}
 use Rattle.std.proofs.lemmas.Bool.{and_parts, leb-true}
 use Rattle.std.proofs.lemmas.Fmt.{length-decimal-le}
@@ -12,8 +12,7 @@ use Rattle.serde_json.specs.Written.{compact_text, items_text, members_text, com
 use Rattle.implicit_tiling.specs.declared.Scheme.{Scheme}
 use Rattle.implicit_tiling.specs.declared.Scheme.TheVariants.{Quad, Oct}
 use Rattle.implicit_tiling.specs.Limits.{most_levels, most_subtree_levels}
-use Rattle.implicit_tiling.specs.Scene.{Layout}
-use Rattle.tileset_write.specs.LayoutText.{IsTemplateText, IsLayout, LayoutTextsAreShort, scheme_name, whole_number, uri_value, asset_value, box_value, implicit_value, with_contents, root_value, layout_value}
+use Rattle.tileset_write.specs.LayoutText.{IsTemplateText, LayoutTextsAreShort, scheme_name, whole_number, uri_value, asset_value, box_value, implicit_value, with_contents, root_value}
 
 -- ---- a text in quotes
 

@@ -1,5 +1,5 @@
 -- One more template was seen.
-use Rattle.std.proofs.Common.{◌≤◌, length, take, subst, arith}
+use Rattle.std.proofs.Common.{◌≤◌, length, subst, arith}
 use Rattle.std.specs.List.{All}
 use Rattle.std.proofs.lemmas.Grind.{common_steps}
 use Rattle.std.proofs.lemmas.List.{take_all}
