@@ -86,6 +86,16 @@ place_is_short s t l m n same is low h at = omega (arith, place_fits s t l m n s
 pub tile_place : (s t : Subtree) (l m n : ℕ) → s ≡ t → IsSubtree s → l < t.levels → m < branching t.scheme ^ l → n ≡ nodes_above s.scheme l → n + m < length s.tiles
 tile_place s t l m n same is low h at = omega (arith, place_fits s t l m n same is low h at, is.tile_bits)
 
+-- a level ends at one of a subtree's places, or with the last
+pub level_within : (s t : Subtree) (l n m : ℕ) → s ≡ t → IsSubtree s → l < t.levels → n ≡ nodes_above s.scheme l → m ≡ branching s.scheme ^ l → n + m ≤ length s.tiles
+level_within s t l n m same is low at many =
+    let low_s : l < s.levels = subst (λ u. l < u.levels) (sym same) low in
+    let up : l + 1 ≤ s.levels = omega (arith, low_s) in
+    omega (arith, level_end s.scheme l, nodes_rise s.scheme (l + 1) s.levels up, is.tile_bits)
+
+pub few_places : (s : Subtree) → IsSubtree s → length s.tiles < 2 ^ 64
+few_places s is = omega (arith, nodes_fit s.scheme s.levels is.few_levels, is.tile_bits)
+
 pub content_place : (s t : Subtree) (l m n : ℕ) → s ≡ t → IsSubtree s → l < t.levels → m < branching t.scheme ^ l → n ≡ nodes_above s.scheme l
     → All (λ bits. n + m < length bits) s.contents
 content_place s t l m n same is low h at =

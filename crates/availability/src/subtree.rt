@@ -1,10 +1,11 @@
 // Decoded subtrees.
-ghost use Rattle.std.specs.Prelude.{◌≡◌, ◌^◌, ◌<◌, ◌≤◌};
+ghost use Rattle.std.specs.Prelude.{◌≡◌, ◌^◌, ◌<◌, ◌≤◌, MatchOption};
 ghost use Rattle.implicit_tiling.specs.Tile.{branching};
 ghost use Rattle.implicit_tiling.specs.Subtree.{is_kept as is_kept_of, has_tile, has_child, contents_mask, has_orphan as has_orphan_of, has_content_alone as has_content_alone_of};
+ghost use Rattle.bitstream.specs.Bits.{HasNoOne, IsFirstOne};
 ghost use Rattle.availability.specs.Rules.{rule_fault, IsKeptCount};
 
-use crate::nodes::nodes_above;
+use crate::nodes::{nodes_above, nodes_at};
 use crate::rules::{has_orphan_at, mask_at};
 use bitstream::Bits;
 use std::marker::Model;
@@ -58,6 +59,21 @@ impl Subtree {
         self.is_kept(local) && self.tiles.get(nodes_above(self.scheme, local) + index)
     }
 
+    /// The least index from `from` on of a node of a local level that is there. None exactly where there is none.
+    pub fn next_tile(&self, local: u32, from: u64) -> Option<u64>
+        requires local { local < self.now.levels }
+        requires from { from ≤ branching self.now.scheme ^ local }
+        ensures { MatchOption result (HasNoOne (has_tile self.now local) from (branching self.now.scheme ^ local)) (IsFirstOne (has_tile self.now local) from (branching self.now.scheme ^ local)) }
+    {
+        if !self.is_kept(local) {
+            return None;
+        }
+        let above = nodes_above(self.scheme, local);
+        let end = above + nodes_at(self.scheme, local);
+        let place = self.tiles.next_one(above + from, end)?;
+        Some(place - above)
+    }
+
     /// The contents of that node: bit c for content c (OGC 22-025r4, content availability).
     pub fn contents_at(&self, local: u32, index: u64) -> u8
         requires local { local < self.now.levels }
@@ -77,6 +93,17 @@ impl Subtree {
         ensures { result ≡ has_child self.now index }
     {
         self.is_kept(self.levels) && self.child.get(index)
+    }
+
+    /// The least index from `from` on of a child subtree. None exactly where there is none.
+    pub fn next_child(&self, from: u64) -> Option<u64>
+        requires { from ≤ branching self.now.scheme ^ self.now.levels }
+        ensures { MatchOption result (HasNoOne (has_child self.now) from (branching self.now.scheme ^ self.now.levels)) (IsFirstOne (has_child self.now) from (branching self.now.scheme ^ self.now.levels)) }
+    {
+        if !self.is_kept(self.levels) {
+            return None;
+        }
+        self.child.next_one(from, nodes_at(self.scheme, self.levels))
     }
 
     /// Which rule the bits break first, if any: ParentMissing exactly where a node below the local root is there and

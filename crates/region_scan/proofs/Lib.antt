@@ -2,3 +2,4 @@ pub mod Scan
 pub mod NodeTiles
 pub mod NodesInRegion
 pub mod NodeWords
+pub mod Blocks

@@ -1,12 +1,13 @@
 -- What a scan of the indices in their order has found so far.
-use Rattle.std.proofs.Common.{◌≡◌, ℕ, zero, suc, ◌+◌, ◌-◌, ◌<◌, ◌≤◌, List, [], ◌∷◌, ◌++◌, length, Bool, true, false, map, take, refl, sym, ap, ◌∙◌, arith, add-one, add-zero, append-nil, append_assoc, length-append, subst, cond}
-use Rattle.std.specs.Prelude.{filter, nat_lt, Some, None, option_to_list, Result, Ok, Err, IfErr}
+use Rattle.std.proofs.Common.{◌≡◌, ℕ, zero, suc, ◌+◌, ◌-◌, ◌≤◌, List, [], ◌∷◌, ◌++◌, length, Bool, true, false, map, take, refl, sym, ap, ◌∙◌, arith, add-one, add-zero, append-nil, append_assoc, length-append, subst, cond}
+use Rattle.std.specs.Prelude.{filter, nat_lt, Result, Ok, Err, IfErr}
 use Rattle.std.specs.List.{range_with_len}
 use Rattle.std.proofs.Math.Seq.{take-append_seam}
 use Rattle.std.proofs.lemmas.Bool.{lt-ltb, le-ltb}
 use Rattle.std.proofs.lemmas.List.{map-append, take_all}
 use Rattle.std.proofs.lemmas.List.Elements.{filter-append}
-use Rattle.region_scan.specs.Found.{found, Extends}
+use Rattle.bitstream.specs.Bits.{HasNoOne, IsFirstOne}
+use Rattle.region_scan.specs.Found.{Extends}
 
 -- the values of the first n indices that pass a test
 abbrev pub hits : (ℕ → Bool) → (ℕ → ℕ) → ℕ → List ℕ
@@ -18,64 +19,74 @@ range_more a (suc n) =
     let next : a + 1 + n ≡ a + suc n = omega arith in
     ap (λ xs. a ∷ xs) (range_more (a + 1) n ∙ ap (λ x. range_with_len (a + 1) n ++ x ∷ []) next)
 
-one_hit : (b : Bool) (value : ℕ → ℕ) (n : ℕ) → map value (cond b (n ∷ []) []) ≡ option_to_list (found b (value n))
-one_hit true value n = refl
-one_hit false value n = refl
-
 -- one more index
-pub hits_more : (test : ℕ → Bool) (value : ℕ → ℕ) (n : ℕ) → hits test value (n + 1) ≡ hits test value n ++ option_to_list (found (test n) (value n))
+hits_more : (test : ℕ → Bool) (value : ℕ → ℕ) (n : ℕ) → hits test value (n + 1) ≡ hits test value n ++ map value (cond (test n) (n ∷ []) [])
 hits_more test value n =
     let count : 0 + n ≡ n = omega arith in
     ap (λ k. hits test value k) (add-one n)
     ∙ ap (λ xs. map value (filter test xs)) (range_more 0 n ∙ ap (λ x. range_with_len 0 n ++ x ∷ []) count)
     ∙ ap (map value) (filter-append test (range_with_len 0 n) (n ∷ []))
     ∙ map-append value (filter test (range_with_len 0 n)) (filter test (n ∷ []))
-    ∙ ap (λ xs. hits test value n ++ xs) (one_hit (test n) value n)
 
-pub hits_none : (test : ℕ → Bool) (value : ℕ → ℕ) (n : ℕ) → None ≡ found (test n) (value n) → hits test value (n + 1) ≡ hits test value n
-hits_none test value n is = hits_more test value n ∙ ap (λ o. hits test value n ++ option_to_list o) (sym is) ∙ append-nil (hits test value n)
+hits_none : (test : ℕ → Bool) (value : ℕ → ℕ) (n : ℕ) → test n ≡ false → hits test value (n + 1) ≡ hits test value n
+hits_none test value n is = hits_more test value n ∙ ap (λ b. hits test value n ++ map value (cond b (n ∷ []) [])) is ∙ append-nil (hits test value n)
+
+hits_one : (test : ℕ → Bool) (value : ℕ → ℕ) (n : ℕ) → test n ≡ true → hits test value (n + 1) ≡ hits test value n ++ value n ∷ []
+hits_one test value n is = hits_more test value n ∙ ap (λ b. hits test value n ++ map value (cond b (n ∷ []) [])) is
+
+-- indices that don't pass
+passed_over : (test : ℕ → Bool) (value : ℕ → ℕ) (n k : ℕ) → HasNoOne test n (n + k) → hits test value (n + k) ≡ hits test value n
+passed_over test value n zero none = ap (λ j. hits test value j) (add-zero n)
+passed_over test value n (suc k) none =
+    let count : n + suc k ≡ n + k + 1 = omega arith in
+    ap (λ j. hits test value j) count ∙ hits_none test value (n + k) (none (n + k) (omega arith) (omega arith))
+    ∙ passed_over test value n k (λ i low high. none i low (omega (arith, high)))
+
+pub hits_until : (test : ℕ → Bool) (value : ℕ → ℕ) (n m : ℕ) → n ≤ m → HasNoOne test n m → hits test value m ≡ hits test value n
+hits_until test value n m le none =
+    let sum : n + (m - n) ≡ m = omega arith in
+    sym (ap (λ j. hits test value j) sum) ∙ passed_over test value n (m - n) (λ i low high. none i low (omega (arith, high, sum)))
+
+-- up to the first one that passes, and with it
+hits_with : (test : ℕ → Bool) (value : ℕ → ℕ) (n m p : ℕ) → IsFirstOne test n m p → hits test value (p + 1) ≡ hits test value n ++ value p ∷ []
+hits_with test value n m p first = hits_one test value p first.one ∙ ap (λ xs. xs ++ value p ∷ []) (hits_until test value n p first.low first.before)
 
 -- one step of a scan that appends what it finds
-pub step_found : (test : ℕ → Bool) (value : ℕ → ℕ) (n w : ℕ) (old before after : List ℕ) → before ≡ old ++ hits test value n → Some w ≡ found (test n) (value n)
-    → after ≡ before ++ w ∷ [] → after ≡ old ++ hits test value (n + 1)
-step_found test value n w old before after so_far is pushed =
+pub step_found : (test : ℕ → Bool) (value : ℕ → ℕ) (n m p w : ℕ) (old before after : List ℕ) → IsFirstOne test n m p → before ≡ old ++ hits test value n → w ≡ value p
+    → after ≡ before ++ w ∷ [] → after ≡ old ++ hits test value (p + 1)
+step_found test value n m p w old before after first so_far is pushed =
     pushed ∙ ap (λ xs. xs ++ w ∷ []) so_far ∙ append_assoc old (hits test value n) (w ∷ [])
-    ∙ ap (λ xs. old ++ xs) (ap (λ o. hits test value n ++ option_to_list o) is ∙ sym (hits_more test value n))
+    ∙ ap (λ x. old ++ (hits test value n ++ x ∷ [])) is ∙ ap (λ xs. old ++ xs) (sym (hits_with test value n m p first))
 
-pub step_none : (test : ℕ → Bool) (value : ℕ → ℕ) (n : ℕ) (old before : List ℕ) → before ≡ old ++ hits test value n → None ≡ found (test n) (value n)
-    → before ≡ old ++ hits test value (n + 1)
-step_none test value n old before so_far is = so_far ∙ ap (λ xs. old ++ xs) (sym (hits_none test value n is))
-
-pub count_found : (test : ℕ → Bool) (value : ℕ → ℕ) (n w : ℕ) → Some w ≡ found (test n) (value n) → length (hits test value (n + 1)) ≡ length (hits test value n) + 1
-count_found test value n w is =
-    ap length (hits_more test value n ∙ ap (λ o. hits test value n ++ option_to_list o) (sym is)) ∙ length-append (hits test value n) (w ∷ [])
+pub count_found : (test : ℕ → Bool) (value : ℕ → ℕ) (n m p : ℕ) → IsFirstOne test n m p → length (hits test value (p + 1)) ≡ length (hits test value n) + 1
+count_found test value n m p first = ap length (hits_with test value n m p first) ∙ length-append (hits test value n) (value p ∷ [])
 
 -- what was found stays at the front
 hits_by : (test : ℕ → Bool) (value : ℕ → ℕ) (n k : ℕ) → Extends (hits test value n) (hits test value (n + k))
 hits_by test value n zero = ([], ap (λ j. hits test value j) (add-zero n) ∙ sym (append-nil (hits test value n)))
 hits_by test value n (suc k) =
     let before = hits_by test value n k in
+    let last = map value (cond (test (n + k)) ((n + k) ∷ []) []) in
     let count : n + suc k ≡ n + k + 1 = omega arith in (
-      before.0 ++ option_to_list (found (test (n + k)) (value (n + k))),
-      ap (λ j. hits test value j) count ∙ hits_more test value (n + k)
-          ∙ ap (λ xs. xs ++ option_to_list (found (test (n + k)) (value (n + k)))) before.1
-          ∙ append_assoc (hits test value n) before.0 (option_to_list (found (test (n + k)) (value (n + k)))),
+      before.0 ++ last,
+      ap (λ j. hits test value j) count ∙ hits_more test value (n + k) ∙ ap (λ xs. xs ++ last) before.1 ∙ append_assoc (hits test value n) before.0 last,
     )
 
-pub hits_front : (test : ℕ → Bool) (value : ℕ → ℕ) (n m : ℕ) → n ≤ m → Extends (hits test value n) (hits test value m)
+hits_front : (test : ℕ → Bool) (value : ℕ → ℕ) (n m : ℕ) → n ≤ m → Extends (hits test value n) (hits test value m)
 hits_front test value n m le =
     let sum : n + (m - n) ≡ m = omega arith in
     subst (λ j. Extends (hits test value n) (hits test value j)) sum (hits_by test value n (m - n))
 
 -- one more than the limit
-pub over_limit : (test : ℕ → Bool) (value : ℕ → ℕ) (n m w limit : ℕ) → n < m → Some w ≡ found (test n) (value n) → length (hits test value n) ≡ limit
+pub over_limit : (test : ℕ → Bool) (value : ℕ → ℕ) (n m p limit : ℕ) → IsFirstOne test n m p → length (hits test value n) ≡ limit
     → (hits test value n ≡ take limit (hits test value m)) × (true ≡ nat_lt limit (length (hits test value m)))
-over_limit test value n m w limit low is count =
-    let rest = hits_front test value (n + 1) m (omega arith) in
-    let all : hits test value m ≡ hits test value n ++ (w ∷ [] ++ rest.0) =
-    rest.1 ∙ ap (λ xs. xs ++ rest.0) (hits_more test value n ∙ ap (λ o. hits test value n ++ option_to_list o) (sym is)) ∙ append_assoc (hits test value n) (w ∷ []) rest.0 in (
-      sym (ap (take limit) all ∙ ap (λ k. take k (hits test value n ++ (w ∷ [] ++ rest.0))) (sym count) ∙ take-append_seam (hits test value n) (w ∷ [] ++ rest.0)),
-      sym (lt-ltb limit (length (hits test value m)) (omega (arith, ap length all, length-append (hits test value n) (w ∷ [] ++ rest.0)))),
+over_limit test value n m p limit first count =
+    let rest = hits_front test value (p + 1) m (omega (arith, first.high)) in
+    let more = value p ∷ [] ++ rest.0 in
+    let all : hits test value m ≡ hits test value n ++ more =
+    rest.1 ∙ ap (λ xs. xs ++ rest.0) (hits_with test value n m p first) ∙ append_assoc (hits test value n) (value p ∷ []) rest.0 in (
+      sym (ap (take limit) all ∙ ap (λ k. take k (hits test value n ++ more)) (sym count) ∙ take-append_seam (hits test value n) more),
+      sym (lt-ltb limit (length (hits test value m)) (omega (arith, ap length all, length-append (hits test value n) more))),
     )
 
 -- no more than the limit

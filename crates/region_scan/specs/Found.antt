@@ -1,8 +1,8 @@
--- Which levels have nodes in a region at all, what a test of one node gives, and lists that go on (this project's own).
-use Rattle.std.specs.Prelude.{ℕ, ◌≡◌, ◌+◌, ◌*◌, ◌^◌, ◌++◌, ◌&&◌, nat_le, Bool, true, false, List, Option, Some, None}
+-- Which levels have nodes in a region at all, which child roots there are, and lists that go on (this project's own).
+use Rattle.std.specs.Prelude.{ℕ, ◌≡◌, ◌+◌, ◌-◌, ◌*◌, ◌/◌, ◌^◌, ◌++◌, ◌&&◌, nat_le, Bool, List}
 use Rattle.implicit_tiling.specs.Tile.{branching, index}
 use Rattle.implicit_tiling.specs.Region.{Region}
-use Rattle.implicit_tiling.specs.Subtree.{Subtree, is_kept}
+use Rattle.implicit_tiling.specs.Subtree.{Subtree, is_kept, has_tile, has_child}
 
 -- the nodes of the local level are below the levels in all, and not below the region's level
 abbrev pub is_looked_at : Subtree → ℕ → Region → Bool
@@ -12,10 +12,9 @@ is_looked_at s l region = is_kept s l && nat_le (s.root.level + l) region.level
 abbrev pub first_index : Subtree → ℕ → ℕ
 first_index s l = index s.scheme s.root * branching s.scheme ^ l
 
--- the value where the test holds
-abbrev pub found : {X : Type 0} → Bool → X → Option X
-found true x = Some x
-found false x = None
+-- a child root whose child bit is 1 and whose parent is there
+abbrev pub is_child : Subtree → ℕ → Bool
+is_child s m = has_child s m && has_tile s (s.levels - 1) (m / branching s.scheme)
 
 -- a list begins with another one
 abbrev pub Extends : {X : Type 0} → List X → List X → Type 0

@@ -3,8 +3,9 @@ ghost use Rattle.std.specs.Prelude.{◌≡◌, ◌+◌, ◌++◌, ◌<◌, IfOk,
 ghost use Rattle.implicit_tiling.specs.Nodes.{child_words};
 ghost use Rattle.region_scan.specs.Found.{Extends};
 
-use crate::nodes::{child_in, first_at, is_looked_at};
-use availability::{Subtree, nodes_at};
+use crate::nodes::{first_at, is_looked_at, root_word};
+use crate::search::next_child;
+use availability::Subtree;
 use std::alloc::AllocError;
 use tile_coords::{Region, Word};
 
@@ -37,10 +38,10 @@ fn append_roots(subtree: &Subtree, region: &Region, out: &mut Vec<Word>) -> Resu
     ensures begun { IfErr result (λ e. Extends out.old.items out.new.items) }
 {
     let first = first_at(subtree, subtree.levels);
-    for index in 0..nodes_at(subtree.scheme, subtree.levels) {
-        if let Some(word) = child_in(subtree, first, region, index) {
-            out.push(word)?;
-        }
+    let mut from = 0;
+    while let Some(index) = next_child(subtree, first, region, from) {
+        out.push(root_word(subtree, first, index))?;
+        from = index + 1;
     }
     Ok(())
 }

@@ -3,8 +3,9 @@ ghost use Rattle.std.specs.Prelude.{◌≡◌, ◌+◌, ◌++◌, ◌<◌, IfOk,
 ghost use Rattle.implicit_tiling.specs.Nodes.{level_words};
 ghost use Rattle.region_scan.specs.Found.{Extends};
 
-use crate::nodes::{first_at, is_looked_at, tile_in};
-use availability::{Subtree, nodes_at};
+use crate::nodes::{first_at, is_looked_at, tile_word};
+use crate::search::next_tile;
+use availability::Subtree;
 use std::alloc::AllocError;
 use tile_coords::{Region, Word};
 
@@ -48,16 +49,18 @@ fn append_tiles(
     ensures more { IfOk result (λ more. more ≡ nat_lt limit (length (level_words subtree.now region.now local))) }
     ensures begun { IfErr result (λ e. Extends out.old.items out.new.items) }
 {
+    // The scheme is read so that the limits of the subtree are known.
+    let _scheme = subtree.scheme;
     let first = first_at(subtree, local);
     let mut left = limit;
-    for index in 0..nodes_at(subtree.scheme, local) {
-        if let Some(word) = tile_in(subtree, local, first, region, index) {
-            if left == 0 {
-                return Ok(true);
-            }
-            out.push(word)?;
-            left -= 1;
+    let mut from = 0;
+    while let Some(index) = next_tile(subtree, local, first, region, from) {
+        if left == 0 {
+            return Ok(true);
         }
+        out.push(tile_word(subtree, local, first, index))?;
+        left -= 1;
+        from = index + 1;
     }
     Ok(false)
 }

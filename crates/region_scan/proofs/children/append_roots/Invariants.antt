@@ -1,7 +1,11 @@
-use Rattle.std.proofs.Common.{◌≡◌, ◌++◌}
+use Rattle.std.proofs.Common.{◌≡◌, ◌-◌, ◌^◌, ◌≤◌, ◌++◌}
+use Rattle.implicit_tiling.specs.Tile.{branching}
 use Rattle.implicit_tiling.specs.Nodes.{is_child_in, child_word}
 use Rattle.region_scan.proofs.Scan.{hits}
 use Rattle.region_scan.proofs.children.append_roots.Given as goal
 
 abbrev pub invariant-loop-index : goal.invariant-loop-index
-invariant-loop-index l = l.out.items ≡ l.fn.out.items ++ hits (is_child_in l.subtree l.region) (child_word l.subtree) l.index
+invariant-loop-index l = (l.out.items ≡ l.fn.out.items ++ hits (is_child_in l.subtree l.region) (child_word l.subtree) l.from) × (l.from ≤ branching l.subtree.scheme ^ l.subtree.levels)
+
+abbrev pub decreases-loop-index : goal.decreases-loop-index
+decreases-loop-index l = branching l.subtree.scheme ^ l.subtree.levels - l.from
