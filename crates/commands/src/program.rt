@@ -3,7 +3,7 @@ ghost use Rattle.std.specs.Prelude.{◌≡◌, ◌≢◌, ◌⊎◌, ◌<◌, Ok
 ghost use Rattle.std.specs.Io.KnownBytes.{Keeps};
 ghost use Rattle.scene_ports.specs.Counts.{Rose};
 ghost use Rattle.commands.specs.Words.{asked, asked_seen};
-ghost use Rattle.commands.specs.Replies.{Replies, IsGiven, IsBeforeWriting, IsRefused, LeavesWanted, PutsFirst, reply_wanted, puts_files, reads_files};
+ghost use Rattle.commands.specs.Replies.{Replies, IsGiven, IsBeforeWriting, IsOfMaking, IsRefused, LeavesWanted, PutsFirst, reply_wanted, puts_files, reads_files};
 
 use crate::answer::answer_tiles;
 use crate::check::answer_check;
@@ -48,6 +48,9 @@ pub fn plain<S: FileSource, K: FileKeeper, I: Inlet, O: Outlet>(
     ensures kept { puts_files (asked (map string_bytes words.now)) ≡ false → keep.new ≡ keep.old }
     ensures unread { reads_files (asked (map string_bytes words.now)) ≡ false → (files.new ≡ files.old) × (result ≢ Status.ReadFault) }
 
+    // Words that read no file end with the whole text, with a write that failed, or for want of memory.
+    ensures made { IfSome (asked (map string_bytes words.now)) (λ wish. reads_files (Some wish) ≡ false → IsOfMaking result) }
+
     // The inlet is not touched, and neither is what the outlet is beside one.
     ensures left { input.new ≡ input.old }
     ensures left_aside { O.left_aside out.new ≡ O.left_aside out.old }
@@ -78,6 +81,7 @@ fn run<S: FileSource, K: FileKeeper, O: Outlet>(
     ensures first { PutsFirst (Some (asked_seen asked.now)) (K.kept keep.old) (K.kept keep.new) (O.given out.old) (O.given out.new) }
     ensures kept { puts_files (Some (asked_seen asked.now)) ≡ false → keep.new ≡ keep.old }
     ensures unread { reads_files (Some (asked_seen asked.now)) ≡ false → (files.new ≡ files.old) × (result ≢ Status.ReadFault) }
+    ensures made { reads_files (Some (asked_seen asked.now)) ≡ false → IsOfMaking result }
     ensures left_aside { O.left_aside out.new ≡ O.left_aside out.old }
     ensures taken_aside { O.taken_aside out.new ≡ O.taken_aside out.old }
 {

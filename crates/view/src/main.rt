@@ -1,11 +1,11 @@
 //! The program `view`: a command over the current folder, standard input and standard output.
 #![tactic(auto)]
 
-ghost use Rattle.std.specs.Prelude.{◌≡◌, ◌≢◌, None, drop, map, string_bytes, IfErr, IfOk};
+ghost use Rattle.std.specs.Prelude.{◌≡◌, ◌≢◌, false, Some, None, drop, map, string_bytes, IfErr, IfOk, IfSome};
 ghost use Rattle.std.specs.Process.{exit_status};
 ghost use Rattle.std.specs.Vec.Iter.{into_iter_items};
 ghost use Rattle.commands.specs.Exits.{exit_of};
-ghost use Rattle.commands.specs.Replies.{IsRefused};
+ghost use Rattle.commands.specs.Replies.{IsOfMaking, IsRefused, reads_files};
 ghost use Rattle.commands.specs.Words.{asked};
 
 use commands::{Status, plain};
@@ -71,6 +71,7 @@ fn behind_name(alloc: Global, mut args: Args) -> Result<Vec<String>, AllocError>
 // Runs the words over the current folder.
 fn run(rt: &HostRuntime, words: &[String]) -> Result<Status, AllocError>
     ensures unasked { asked (map string_bytes words.now) ≡ None → IfOk result IsRefused }
+    ensures made { IfSome (asked (map string_bytes words.now)) (λ wish. reads_files (Some wish) ≡ false → IfOk result IsOfMaking) }
 {
     let alloc = rt.alloc();
     let mut files = Folder::here(alloc, rt.clone()?);

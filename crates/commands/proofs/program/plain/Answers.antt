@@ -4,6 +4,7 @@ use Rattle.commands.specs.Words.{asked, asked_seen}
 use Rattle.commands.specs.Replies.{reply_wanted}
 use Rattle.commands.proofs.Answering.{of_wanted, nothing_begun, complete_of, failed_write_of}
 use Rattle.commands.proofs.Making.{nothing_left, nothing_first}
+use Rattle.commands.proofs.Statuses.{status_of_found, no_memory}
 use Rattle.commands.proofs.program.plain.Goals as goal
 
 pub returns-in-Ok-clause-complete : goal.returns-in-Ok-clause-complete
@@ -25,3 +26,9 @@ returns-in-Err-Memory-clause-first g c = nothing_first (asked (map string_bytes 
 
 pub returns-in-Err-Usage-clause-first : goal.returns-in-Err-Usage-clause-first
 returns-in-Err-Usage-clause-first g c = nothing_first (asked (map string_bytes c.args.words.now)) (g.K.FileKeeper.kept c.args.keep.now) (g.O.Outlet.given c.args.out.now)
+
+pub returns-in-Ok-clause-made : goal.returns-in-Ok-clause-made
+returns-in-Ok-clause-made g c = status_of_found (asked (map string_bytes c.args.words.now)) (asked_seen c.in-Ok.asked) c.run.result c.in-Ok.ensures c.run.ensures.made
+
+pub returns-in-Err-Memory-clause-made : goal.returns-in-Err-Memory-clause-made
+returns-in-Err-Memory-clause-made g c = no_memory (asked (map string_bytes c.args.words.now))
