@@ -103,7 +103,8 @@ impl Subtree {
         if !self.is_kept(self.levels) {
             return None;
         }
-        self.child.next_one(from, nodes_at(self.scheme, self.levels))
+        self.child
+            .next_one(from, nodes_at(self.scheme, self.levels))
     }
 
     /// Which rule the bits break first, if any: ParentMissing exactly where a node below the local root is there and

@@ -10,13 +10,21 @@ next_one-requires-clause-within c =
 
 pub overflow_add-end : goal.overflow_add-end
 overflow_add-end c = record {
-  fits = omega (arith, few_places _ c.self.invariant,
-      level_within _ _ c.args.local c.nodes_above-above.result c.nodes_at.result c.self.view_is c.self.invariant c.requires.local c.nodes_above-above.ensures c.nodes_at.ensures);
+  fits = omega (
+    arith,
+    few_places _ c.self.invariant,
+    level_within _ _ c.args.local c.nodes_above-above.result c.nodes_at.result c.self.view_is c.self.invariant c.requires.local c.nodes_above-above.ensures c.nodes_at.ensures,
+  );
 }
 
 pub overflow_add-above : goal.overflow_add-above
 overflow_add-above c =
     let from : c.args.from ≤ branching c.self.inside.scheme ^ c.args.local = subst (λ (u : Subtree). c.args.from ≤ branching u.scheme ^ c.args.local) (sym c.self.view_is) c.requires.from in record {
-      fits = omega (arith, from, c.nodes_at.ensures, few_places _ c.self.invariant,
-          level_within _ _ c.args.local c.nodes_above-above.result c.nodes_at.result c.self.view_is c.self.invariant c.requires.local c.nodes_above-above.ensures c.nodes_at.ensures);
+      fits = omega (
+        arith,
+        from,
+        c.nodes_at.ensures,
+        few_places _ c.self.invariant,
+        level_within _ _ c.args.local c.nodes_above-above.result c.nodes_at.result c.self.view_is c.self.invariant c.requires.local c.nodes_above-above.ensures c.nodes_at.ensures,
+      );
     }
