@@ -1,4 +1,4 @@
--- Bytes by the places of their ones (this project's own).
+-- For proofs and inner functions: bytes by the places of their ones (this project's own).
 use Rattle.std.specs.Prelude.{◌≡◌, ℕ, ◌<◌, ◌==◌, List, length}
 use Rattle.std.specs.List.{list_any}
 use Rattle.implicit_tiling.specs.Bits.{bit_of_bytes}

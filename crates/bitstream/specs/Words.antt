@@ -1,4 +1,4 @@
--- Words of 64 bits (this project's own).
+-- For proofs and inner functions: words of 64 bits (this project's own).
 use Rattle.std.specs.Prelude.{◌≡◌, ℕ, ◌/◌, ◌%◌, ◌^◌, ◌<◌, List, ◌+◌, ◌==◌, Bool}
 use Rattle.implicit_tiling.specs.Bits.{digit_of_bytes, bit_at}
 

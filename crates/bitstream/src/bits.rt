@@ -29,13 +29,13 @@ pub struct Bits {
 
 impl Model for Bits {
     ghost use Rattle.std.specs.Prelude.{List, Bool};
-    ghost use Rattle.bitstream.specs.Kind.{bits_of, HasBits};
+    ghost use Rattle.bitstream.specs.Kind.{kind_bits, HasEnoughBytes};
 
     ghost Value = { List Bool };
 
-    ghost view = { λ b. bits_of b.kind };
+    ghost view = { λ b. kind_bits b.kind };
 
-    ghost invariant = { λ b. HasBits b.kind };
+    ghost invariant = { λ b. HasEnoughBytes b.kind };
 }
 
 impl Bits {

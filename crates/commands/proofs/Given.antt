@@ -7,7 +7,7 @@ use Rattle.std.specs.Str.Parse.{digits_value}
 use Rattle.std.proofs.lemmas.Bool.Decides.{nat_tests}
 use Rattle.clap.specs.Lexer.{long_of, short_of}
 use Rattle.implicit_tiling.specs.declared.Scheme.{Scheme}
-use Rattle.implicit_tiling.specs.Request.{begins_well, number, numbers, numbers_of_pieces, coordinates, line_of_words}
+use Rattle.implicit_tiling.specs.Request.{begins_well, number, numbers, numbers_of_pieces, coordinates_in, line_of_words}
 use Rattle.commands.specs.Values.{AskNothing}
 use Rattle.commands.specs.Words.{tiles, tiles_asked, check_asked, scheme_of_word, recipe_of_numbers, recipe_of_words, without_dashes}
 
@@ -115,15 +115,15 @@ no_number : (w : List ℕ) → begins_with_hyphen w ≡ true → number w ≡ No
 no_number [] h = absurd (no_bool h)
 no_number (c ∷ cs) h = ap (λ d. number (d ∷ cs)) (is_hyphen c h) ∙ number_from_hyphen cs
 
-no_coordinates : (w : List ℕ) → begins_with_hyphen w ≡ true → coordinates w ≡ None
+no_coordinates : (w : List ℕ) → begins_with_hyphen w ≡ true → coordinates_in w ≡ None
 no_coordinates [] h = absurd (no_bool h)
-no_coordinates (c ∷ cs) h = ap (λ d. coordinates (d ∷ cs)) (is_hyphen c h) ∙ pieces_from_hyphen (slice_split (λ d. d == 44) cs)
+no_coordinates (c ∷ cs) h = ap (λ d. coordinates_in (d ∷ cs)) (is_hyphen c h) ∙ pieces_from_hyphen (slice_split (λ d. d == 44) cs)
 
 no_line : (a b c : List ℕ) (x y z : Bool) → begins_with_hyphen a ≡ x → begins_with_hyphen b ≡ y → begins_with_hyphen c ≡ z
     → (x || (y || (z || false))) ≡ true → line_of_words (a ∷ b ∷ c ∷ []) ≡ None
 no_line a b c true y z p q r h = ap (option_and_then _) (no_number a p)
 no_line a b c false true z p q r h = none_after (number a) _ (λ n. ap (option_and_then _) (no_coordinates b q))
-no_line a b c false false true p q r h = none_after (number a) _ (λ n. none_after (coordinates b) _ (λ l. ap (option_map _) (no_coordinates c r)))
+no_line a b c false false true p q r h = none_after (number a) _ (λ n. none_after (coordinates_in b) _ (λ l. ap (option_map _) (no_coordinates c r)))
 no_line a b c false false false p q r h = absurd (no_bool h)
 
 none_asked : (words : List (List ℕ)) → line_of_words words ≡ None → tiles_asked words ≡ None

@@ -9,7 +9,7 @@ use Rattle.frame_pool.specs.declared.frame.Asked.{Asked}
 use Rattle.frame_pool.specs.declared.frame.Asked.TheVariants.{Hit, Granted, Loading as Waiting, Busy}
 use Rattle.frame_pool.specs.States.{has_key, is_pinned}
 use Rattle.frame_pool.specs.Frames.{Frames, victim, EachFrame, HasKeysOnce}
-use Rattle.frame_pool.specs.Moves.{IsAnswer, NoneHas}
+use Rattle.frame_pool.specs.Moves.{IsAskAnswer, NoneHas}
 use Rattle.frame_pool.proofs.Victims.{victim-unpinned}
 
 module _ {K V : Type 0} (eq : K → K → Bool) (key : K) (frames : Frames K V) where
@@ -27,7 +27,7 @@ module _ {K V : Type 0} (eq : K → K → Bool) (key : K) (frames : Frames K V) 
   holds : (f : ℕ) (state : FrameState K) → slice_get frames.census f ≡ Some state → has_key eq key state ≡ true → NoneHas eq key frames.census → ⊥
   holds f state at has none = both_ways (has_key eq key state) (none f state at) has
 
-  pub one_answer : HasKeysOnce eq frames.census → (a b : Asked) → IsAnswer eq key frames a → IsAnswer eq key frames b → a ≡ b
+  pub one_answer : HasKeysOnce eq frames.census → (a b : Asked) → IsAskAnswer eq key frames a → IsAskAnswer eq key frames b → a ≡ b
   one_answer once (Hit f) (Hit g) p q = ap Hit (once key f g (Ready p.0 p.1) (Ready q.0 q.1) p.2 q.2 p.3 q.3)
   one_answer once (Hit f) (Granted g) p q = absurd (holds f (Ready p.0 p.1) p.2 p.3 q.0)
   one_answer once (Hit f) Waiting p q = absurd (ready_loading (slice_get frames.census f) p.0 q.1 p.1 p.2 (subst (λ k. slice_get frames.census k ≡ Some (Loading q.1)) (once key q.0 f (Loading q.1) (Ready p.0 p.1) q.2 p.2 q.3 p.3) q.2))

@@ -7,9 +7,9 @@ use Rattle.frame_pool.specs.declared.frame.FrameState.{FrameState}
 use Rattle.frame_pool.specs.declared.frame.FrameState.TheVariants.{Loading, Ready}
 use Rattle.frame_pool.specs.declared.frame.Asked.{Asked}
 use Rattle.frame_pool.specs.declared.frame.Asked.TheVariants.{Hit, Granted, Loading as Waiting, Busy}
-use Rattle.frame_pool.specs.States.{is_pinned, is_zero, key_of}
+use Rattle.frame_pool.specs.States.{is_pinned, is_zero, state_key}
 use Rattle.frame_pool.specs.Frames.{Frames, IsLoadingAt, IsPinnedAt, KeepsPinned}
-use Rattle.frame_pool.specs.Moves.{IsAnswer, MayGoOn, after_ask, after_settle, pinned, settled}
+use Rattle.frame_pool.specs.Moves.{IsAskAnswer, MayGoOn, after_ask, after_settle, pinned, settled}
 use Rattle.frame_pool.proofs.Places.{get-set_same, get-set_other}
 use Rattle.frame_pool.proofs.Pools.{changed-at}
 use Rattle.frame_pool.proofs.Victims.{victim-unpinned}
@@ -25,7 +25,7 @@ module _ {K V : Type 0} (eq : K → K → Bool) (key : K) (frames : Frames K V) 
       ⊎_elim
       (λ (same : g ≡ f).
       let was = same_Some state (Ready own pins) (sym here ∙ ap (slice_get frames.census) same ∙ at) in
-      (Ready own (pins + 1), ap (λ xs. slice_get xs g) written ∙ ap (slice_get (set frames.census f (Ready own (pins + 1)))) same ∙ get-set_same frames.census f (Ready own (pins + 1)) (slice_get_within frames.census f (Ready own pins) at), some-pins pins, ap key_of (sym was), refl))
+      (Ready own (pins + 1), ap (λ xs. slice_get xs g) written ∙ ap (slice_get (set frames.census f (Ready own (pins + 1)))) same ∙ get-set_same frames.census f (Ready own (pins + 1)) (slice_get_within frames.census f (Ready own pins) at), some-pins pins, ap state_key (sym was), refl))
       (λ (other : g ≡ f → ⊥).
       (state, ap (λ xs. slice_get xs g) written ∙ get-set_other frames.census f g (Ready own (pins + 1)) other ∙ here, is, refl, refl))
       (cases_eq g f)
@@ -37,14 +37,14 @@ module _ {K V : Type 0} (eq : K → K → Bool) (key : K) (frames : Frames K V) 
       let other : g ≢ f = λ same. both_ways (is_pinned state) (subst (λ s. is_pinned s ≡ false) (same_Some victim state (sym at ∙ ap (slice_get frames.census) (sym same) ∙ here)) free) is in
       (state, ap (λ xs. slice_get xs g) written ∙ get-set_other frames.census f g (Loading key) other ∙ here, is, refl, get-set_other frames.values f g None other)
 
-  pub keeps_pinned : (answer : Asked) → IsAnswer eq key frames answer → KeepsPinned frames (after_ask key frames answer)
+  pub keeps_pinned : (answer : Asked) → IsAskAnswer eq key frames answer → KeepsPinned frames (after_ask key frames answer)
   keeps_pinned (Hit f) h = keeps-hit f h.0 h.1 h.2
   keeps_pinned (Granted f) h = let at = victim-unpinned frames.census frames.order f h.1 in keeps-granted f at.0 at.1 at.2
   keeps_pinned Waiting h = λ g state here is. (state, here, is, refl, refl)
   keeps_pinned Busy h = λ g state here is. (state, here, is, refl, refl)
 
   -- the frame that was hit is pinned, and the one that was granted is loading
-  pub may_go_on : (answer : Asked) → IsAnswer eq key frames answer → MayGoOn answer (after_ask key frames answer).census
+  pub may_go_on : (answer : Asked) → IsAskAnswer eq key frames answer → MayGoOn answer (after_ask key frames answer).census
   may_go_on (Hit f) h =
       (h.0, h.1 + 1, ap (λ xs. slice_get xs f) (changed-at frames.census f (Ready h.0 h.1) pinned h.2) ∙ get-set_same frames.census f (Ready h.0 (h.1 + 1)) (slice_get_within frames.census f (Ready h.0 h.1) h.2), omega arith)
   may_go_on (Granted f) h =

@@ -7,7 +7,7 @@ use Rattle.std.proofs.lemmas.Option.{none-some, same_Some, slice_get-get_or}
 use Rattle.std.proofs.lemmas.Bool.{both_ways, cases_eq, false_from_ne_true, ltb-true}
 use Rattle.frame_pool.specs.declared.frame.FrameState.{FrameState}
 use Rattle.frame_pool.specs.declared.frame.FrameState.TheVariants.{Empty, Loading, Ready}
-use Rattle.frame_pool.specs.States.{has_key, key_of}
+use Rattle.frame_pool.specs.States.{has_key, state_key}
 use Rattle.frame_pool.specs.Frames.{HasKeysOnce}
 use Rattle.frame_pool.specs.Moves.{NoneHas}
 use Rattle.frame_pool.specs.Finding.{AreNoted, HasRoom}
@@ -69,12 +69,12 @@ module _ {K S : Type 0} (eq : K → K → Bool) (census : List (FrameState K)) (
         (at-set census f g (Loading key) state here)
 
 module _ {K : Type 0} (eq : K → K → Bool) where
-  has-by_key : (state : FrameState K) (own other : K) → key_of state ≡ Some own → has_key eq other state ≡ eq own other
+  has-by_key : (state : FrameState K) (own other : K) → state_key state ≡ Some own → has_key eq other state ≡ eq own other
   has-by_key Empty own other is = absurd (none-some own is)
   has-by_key (Loading key) own other is = ap (λ k. eq k other) (same_Some key own is)
   has-by_key (Ready key pins) own other is = ap (λ k. eq k other) (same_Some key own is)
 
-  has-no_key : (state : FrameState K) (other : K) → key_of state ≡ None → has_key eq other state ≡ false
+  has-no_key : (state : FrameState K) (other : K) → state_key state ≡ None → has_key eq other state ≡ false
   has-no_key Empty other is = refl
   has-no_key (Loading key) other is = absurd (none-some key (sym is))
   has-no_key (Ready key pins) other is = absurd (none-some key (sym is))
@@ -89,14 +89,14 @@ module _ {K : Type 0} (eq : K → K → Bool) where
       at_last f state same is = same_Some here state (sym at ∙ ap (slice_get census) (sym same) ∙ is)
 
       -- a frame without a key
-      pub below-keyless : key_of here ≡ None → AreNotedBelow (i + 1) notes
+      pub below-keyless : state_key here ≡ None → AreNotedBelow (i + 1) notes
       below-keyless none f state key less is has = ⊎_elim
           (λ (same : f ≡ i). absurd (both_ways (has_key eq key state) (subst (λ s. has_key eq key s ≡ false) (at_last f state same is) (has-no_key here key none)) has))
           (λ (other : f ≡ i → ⊥). below f state key (omega arith) is has)
           (cases_eq f i)
 
       -- a frame whose key was noted now
-      pub below-put : HasKeysOnce eq census → (own : K) → key_of here ≡ Some own → (later : HashMap K ℕ S) → ((other : K) → get eq later other ≡ cond (eq own other) (Some i) (get eq notes other)) → AreNotedBelow (i + 1) later
+      pub below-put : HasKeysOnce eq census → (own : K) → state_key here ≡ Some own → (later : HashMap K ℕ S) → ((other : K) → get eq later other ≡ cond (eq own other) (Some i) (get eq notes other)) → AreNotedBelow (i + 1) later
       below-put once own key later put f state other less is has = ⊎_elim
           (λ (same : f ≡ i).
           put other

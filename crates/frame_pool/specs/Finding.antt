@@ -1,4 +1,4 @@
--- What a pool keeps beside its frames, so that no call looks at each of them: this project's own.
+-- For proofs and inner functions: what a pool keeps beside its frames, so that no call looks at each of them: this project's own.
 use Rattle.std.specs.Prelude.{◌≡◌, ℕ, ◌+◌, ◌<◌, Bool, true, false, List, length, slice_get, Option, Some}
 use Rattle.std.specs.HashMap.{HashMap, get, spare, hash_map_len}
 use Rattle.frame_pool.specs.declared.frame.FrameState.{FrameState}

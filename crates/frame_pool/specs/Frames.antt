@@ -4,7 +4,7 @@ use Rattle.std.specs.List.{range_with_len}
 use Rattle.std.specs.List.Sorted.{IsPermutation}
 use Rattle.frame_pool.specs.declared.frame.FrameState.{FrameState}
 use Rattle.frame_pool.specs.declared.frame.FrameState.TheVariants.{Empty, Loading, Ready}
-use Rattle.frame_pool.specs.States.{has_key, is_empty, is_free, is_pinned, key_of}
+use Rattle.frame_pool.specs.States.{has_key, is_empty, is_free, is_pinned, state_key}
 
 -- the state of each frame, its value, and the numbers of the frames, the last asked first
 pub record Frames (K V : Type 0) : Type 0 where
@@ -54,10 +54,14 @@ HasKeysOnce {K} eq census = (key : K) (f g : ℕ) (one other : FrameState K) →
 abbrev pub HasValues : {K V : Type 0} → List (FrameState K) → List (Option V) → Type 0
 HasValues {K} {V} census values = (f : ℕ) → IsReadyAt census f → (value : V) × (slice_get values f ≡ Some (Some value))
 
+-- the most frames of a pool
+abbrev pub most_frames : ℕ
+most_frames = 1024
+
 -- what holds of every pool
 pub record IsPool {K V : Type 0} (eq : K → K → Bool) (census : List (FrameState K)) (values : List (Option V)) (order : List ℕ) : Type 0 where
   pub some : 1 ≤ length census
-  pub most : length census ≤ 1024
+  pub most : length census ≤ most_frames
   pub places : length values ≡ length census
   pub keys : HasKeysOnce eq census
   pub filled : HasValues census values
@@ -70,4 +74,4 @@ empty_frames n = record { census = replicate n Empty; values = replicate n None;
 -- a frame that is pinned has the same key and the same value in both
 abbrev pub KeepsPinned : {K V : Type 0} → Frames K V → Frames K V → Type 0
 KeepsPinned {K} old new = (f : ℕ) (state : FrameState K) → slice_get old.census f ≡ Some state → is_pinned state ≡ true
-    → (later : FrameState K) × (slice_get new.census f ≡ Some later) × (is_pinned later ≡ true) × (key_of later ≡ key_of state) × (slice_get new.values f ≡ slice_get old.values f)
+    → (later : FrameState K) × (slice_get new.census f ≡ Some later) × (is_pinned later ≡ true) × (state_key later ≡ state_key state) × (slice_get new.values f ≡ slice_get old.values f)

@@ -13,11 +13,11 @@ NoneHas eq key census = EachFrame (λ state. has_key eq key state ≡ false) cen
 
 -- the answer to one who asks for the key. A hit is a frame that is ready with the key. One waits where a frame is
 -- loading it. All is busy where no frame has the key and every one is pinned. Else the victim is granted
-abbrev pub IsAnswer : {K V : Type 0} → (K → K → Bool) → K → Frames K V → Asked → Type 0
-IsAnswer {K} eq key frames (Hit f) = (own : K) × (pins : ℕ) × (slice_get frames.census f ≡ Some (Ready own pins)) × (eq own key ≡ true)
-IsAnswer {K} eq key frames (Granted f) = NoneHas eq key frames.census × (victim frames.census frames.order ≡ Some f)
-IsAnswer {K} eq key frames Waiting = (f : ℕ) × (own : K) × (slice_get frames.census f ≡ Some (Loading own)) × (eq own key ≡ true)
-IsAnswer {K} eq key frames Busy = NoneHas eq key frames.census × EachFrame (λ state. is_pinned state ≡ true) frames.census
+abbrev pub IsAskAnswer : {K V : Type 0} → (K → K → Bool) → K → Frames K V → Asked → Type 0
+IsAskAnswer {K} eq key frames (Hit f) = (own : K) × (pins : ℕ) × (slice_get frames.census f ≡ Some (Ready own pins)) × (eq own key ≡ true)
+IsAskAnswer {K} eq key frames (Granted f) = NoneHas eq key frames.census × (victim frames.census frames.order ≡ Some f)
+IsAskAnswer {K} eq key frames Waiting = (f : ℕ) × (own : K) × (slice_get frames.census f ≡ Some (Loading own)) × (eq own key ≡ true)
+IsAskAnswer {K} eq key frames Busy = NoneHas eq key frames.census × EachFrame (λ state. is_pinned state ≡ true) frames.census
 
 -- the order with f at its front, and the others as they stood
 abbrev pub asked_last : ℕ → List ℕ → List ℕ

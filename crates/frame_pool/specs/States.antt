@@ -35,7 +35,7 @@ pins_of Empty = 0
 pins_of (Loading key) = 0
 pins_of (Ready key pins) = pins
 
-abbrev pub key_of : {K : Type 0} → FrameState K → Option K
-key_of Empty = None
-key_of (Loading key) = Some key
-key_of (Ready key pins) = Some key
+abbrev pub state_key : {K : Type 0} → FrameState K → Option K
+state_key Empty = None
+state_key (Loading key) = Some key
+state_key (Ready key pins) = Some key

@@ -1,6 +1,6 @@
 //! What a frame is, and what is answered to one who asks for a key.
 ghost use Rattle.std.specs.Prelude.{◌≡◌};
-ghost use Rattle.frame_pool.specs.States.{has_key, is_empty, is_free, key_of};
+ghost use Rattle.frame_pool.specs.States.{has_key, is_empty, is_free, state_key};
 
 /// The state of a frame.
 #[derive(Clone, Copy, Debug, PartialEq, Eq)]
@@ -28,7 +28,7 @@ pub enum Asked {
 
 impl<K: Copy + Eq> FrameState<K> {
     pub(crate) fn key(&self) -> Option<K>
-        ensures { result ≡ key_of self.now }
+        ensures { result ≡ state_key self.now }
     {
         match self {
             FrameState::Empty => None,

@@ -4,6 +4,7 @@
 //! in the map, which is then filled anew, since the removal of a single note need not leave room for another.
 ghost use Rattle.std.specs.Prelude.{◌≡◌, ℕ, ◌+◌, ◌<◌, ◌≤◌, cond, length, position, slice_set, Some};
 ghost use Rattle.std.specs.HashMap.{get, spare, hash_map_len};
+ghost use Rattle.frame_pool.specs.Frames.{most_frames};
 ghost use Rattle.frame_pool.specs.States.{has_key};
 ghost use Rattle.frame_pool.specs.Moves.{NoneHas};
 ghost use Rattle.frame_pool.specs.Finding.{AreNoted, HasRoom};
@@ -37,7 +38,7 @@ pub(crate) fn note<K: Copy + Eq + Hash>(
     requires noted { AreNoted K.eq census.now notes.old }
     requires room { HasRoom (length census.now) notes.old }
     requires given { NoneHas K.eq key census.now }
-    requires few { length census.now ≤ 1024 }
+    requires few { length census.now ≤ most_frames }
     ensures noted { AreNoted K.eq (slice_set census.now frame (loading key)) notes.new }
     ensures room { HasRoom (length census.now) notes.new }
 {
@@ -49,7 +50,7 @@ pub(crate) fn note<K: Copy + Eq + Hash>(
 fn make_room<K: Copy + Eq + Hash>(census: &[FrameState<K>], notes: &mut HashMap<K, u32>)
     requires noted { AreNoted K.eq census.now notes.old }
     requires room { HasRoom (length census.now) notes.old }
-    requires few { length census.now ≤ 1024 }
+    requires few { length census.now ≤ most_frames }
     ensures noted { AreNoted K.eq census.now notes.new }
     ensures room { HasRoom (length census.now) notes.new }
     ensures spare { 0 < spare notes.new }

@@ -3,6 +3,7 @@ ghost use Rattle.std.specs.Prelude.{◌≡◌, ◌≤◌, ℕ, eqb, count_by, le
 ghost use Rattle.std.specs.List.{range_with_len};
 ghost use Rattle.std.specs.Iterator.{at_most};
 ghost use Rattle.std.specs.Map.Iter.{TakesFirst, TakesLast, GivesInOrder, GivesInReverse};
+ghost use Rattle.frame_pool.specs.Frames.{most_frames};
 ghost use Rattle.frame_pool.specs.Moves.{asked_last};
 
 use lru::LruCache;
@@ -28,7 +29,7 @@ impl Model for FrameOrder {
 impl FrameOrder {
     // This many frames, in the order of their numbers.
     pub(crate) fn new(alloc: Global, frames: usize) -> Result<FrameOrder, AllocError>
-        requires { (1 ≤ frames) × (frames ≤ 1024) }
+        requires { (1 ≤ frames) × (frames ≤ most_frames) }
         ensures { IfOk result (λ order. order ≡ range_with_len 0 frames) }
     {
         let Some(capacity) = NonZeroUsize::new(frames) else {

@@ -4,8 +4,8 @@ ghost use Rattle.std.specs.List.{range_with_len};
 ghost use Rattle.std.specs.List.Sorted.{IsPermutation};
 ghost use Rattle.std.specs.Map.Iter.{GivesInOrder, GivesInReverse};
 ghost use Rattle.frame_pool.specs.States.{pins_of};
-ghost use Rattle.frame_pool.specs.Frames.{EachFrame, IsLoadingAt, IsReadyAt, IsPinnedAt, HasKeysOnce, KeepsPinned, empty_frames};
-ghost use Rattle.frame_pool.specs.Moves.{IsAnswer, MayGoOn, after_ask, after_settle, after_unpin, settled as settled_of};
+ghost use Rattle.frame_pool.specs.Frames.{most_frames, EachFrame, IsLoadingAt, IsReadyAt, IsPinnedAt, HasKeysOnce, KeepsPinned, empty_frames};
+ghost use Rattle.frame_pool.specs.Moves.{IsAskAnswer, MayGoOn, after_ask, after_settle, after_unpin, settled as settled_of};
 ghost use Rattle.frame_pool.specs.declared.frame.FrameState.TheVariants.{Empty as empty, Loading as loading};
 ghost use Rattle.frame_pool.specs.declared.frame.Asked.{Asked as asked};
 
@@ -45,7 +45,7 @@ impl<K: Copy + Eq + Hash, V: Drop> Pool<K, V> {
     /// A pool of this many empty frames, in the order of their numbers. All memory of the pool is taken here; an
     /// error is want of it.
     pub fn new(alloc: Global, frames: usize) -> Result<Pool<K, V>, AllocError>
-        requires { (1 ≤ frames) × (frames ≤ 1024) }
+        requires { (1 ≤ frames) × (frames ≤ most_frames) }
         ensures { IfOk result (λ pool. pool ≡ empty_frames frames) }
     {
         Ok(Pool {
@@ -81,8 +81,8 @@ impl<K: Copy + Eq + Hash, V: Drop> Pool<K, V> {
     /// changes.
     pub fn ask(&mut self, key: K) -> Asked
         requires { EachFrame (λ state. pins_of state < 2 ^ 32 - 1) self.old.census }
-        ensures answer { IsAnswer K.eq key self.old result }
-        ensures only { (other : asked) → IsAnswer K.eq key self.old other → other ≡ result }
+        ensures answer { IsAskAnswer K.eq key self.old result }
+        ensures only { (other : asked) → IsAskAnswer K.eq key self.old other → other ≡ result }
         ensures after { self.new ≡ after_ask key self.old result }
         ensures count { length self.new.census ≡ length self.old.census }
         ensures pinned { KeepsPinned self.old self.new }

@@ -1,7 +1,7 @@
 //! The frame that is given up for a new key.
 ghost use Rattle.std.specs.Prelude.{◌≡◌, ◌≤◌, min, length, position, slice_get, if◌then◌else◌};
 ghost use Rattle.frame_pool.specs.States.{is_empty};
-ghost use Rattle.frame_pool.specs.Frames.{victim as victim_of, last_free as last_free_of, is_free_frame};
+ghost use Rattle.frame_pool.specs.Frames.{most_frames, victim as victim_of, last_free as last_free_of, is_free_frame};
 ghost use Rattle.frame_pool.specs.Finding.{NoneEmptyBelow};
 
 use crate::frame::FrameState;
@@ -14,7 +14,7 @@ pub(crate) fn victim<K: Copy + Eq>(
     order: &FrameOrder,
     least_empty: &mut usize,
 ) -> Option<u32>
-    requires few { length census.now ≤ 1024 }
+    requires few { length census.now ≤ most_frames }
     requires below { NoneEmptyBelow least_empty.old census.now }
     ensures victim { result ≡ victim_of census.now order.now }
     ensures below { NoneEmptyBelow least_empty.new census.now }

@@ -10,7 +10,7 @@ use Rattle.frame_pool.specs.declared.frame.FrameState.TheVariants.{Empty, Loadin
 use Rattle.frame_pool.specs.declared.frame.Asked.TheVariants.{Hit, Granted, Loading as Waiting, Busy}
 use Rattle.frame_pool.specs.States.{is_pinned, pins_of}
 use Rattle.frame_pool.specs.Frames.{Frames, EachFrame, IsLoadingAt, empty_frames}
-use Rattle.frame_pool.specs.Moves.{IsAnswer, after_ask, after_settle, after_unpin, pinned, unpinned, settled}
+use Rattle.frame_pool.specs.Moves.{IsAskAnswer, after_ask, after_settle, after_unpin, pinned, unpinned, settled}
 use Rattle.frame_pool.proofs.Places.{at-set, get-set_same, get-set_other}
 use Rattle.frame_pool.proofs.Pools.{changed-at}
 use Rattle.tile_walk.specs.declared.outcome.Outcome.{Outcome}
@@ -54,10 +54,10 @@ module _ (layout : Layout) (told : Option Files) where
   written_here census f old change at c is = ap (λ xs. slice_get xs f) is ∙ get-set_same census f (change old) (slice_get_within census f old at)
 
   -- nobody loads, and some frame is not pinned
-  pub none_waits : (frames : Frames ℕ Outcome) (eq : ℕ → ℕ → Bool) (key : ℕ) → AreAtRest layout told frames → IsAnswer eq key frames Waiting → ⊥
+  pub none_waits : (frames : Frames ℕ Outcome) (eq : ℕ → ℕ → Bool) (key : ℕ) → AreAtRest layout told frames → IsAskAnswer eq key frames Waiting → ⊥
   none_waits frames eq key rest answer = rest.idle answer.0 (Loading answer.1) answer.2
 
-  pub some_is_free : (frames : Frames ℕ Outcome) (eq : ℕ → ℕ → Bool) (key : ℕ) → AreAtRest layout told frames → IsAnswer eq key frames Busy → ⊥
+  pub some_is_free : (frames : Frames ℕ Outcome) (eq : ℕ → ℕ → Bool) (key : ℕ) → AreAtRest layout told frames → IsAskAnswer eq key frames Busy → ⊥
   some_is_free frames eq key rest answer =
       let at = slice_get-get_or frames.census 0 Empty (omega (arith, rest.some)) in
       idle_unpinned _ (rest.idle 0 _ at) (answer.1 0 _ at)
@@ -85,7 +85,7 @@ module _ (layout : Layout) (told : Option Files) where
             (at-set frames.census f g (Ready own (pins + 1)) (Ready k n) (ap (λ xs. slice_get xs g) (sym written) ∙ e));
       }
 
-  pub hit : (frames : Frames ℕ Outcome) (eq : ℕ → ℕ → Bool) (key f : ℕ) → ((a b : ℕ) → eq a b ≡ true → a ≡ b) → AreAtRest layout told frames → IsAnswer eq key frames (Hit f)
+  pub hit : (frames : Frames ℕ Outcome) (eq : ℕ → ℕ → Bool) (key f : ℕ) → ((a b : ℕ) → eq a b ≡ true → a ≡ b) → AreAtRest layout told frames → IsAskAnswer eq key frames (Hit f)
       → (after : Frames ℕ Outcome) → after ≡ after_ask key frames (Hit f) → IsHeld layout told key f after
   hit frames eq key f laws rest answer after is = hit_at frames key f answer.0 answer.1 rest answer.2 (laws answer.0 key answer.3) after is
 

@@ -35,8 +35,8 @@ pub record SubtreeRecord : Type 0 where
   pub child : Availability
 
 -- the number that a value is, as `serde_json` gives it: a whole number that isn't negative
-abbrev pub number_of : Data → Option ℕ
-number_of value = option_and_then as_u64 (as_number value)
+abbrev pub number_in : Data → Option ℕ
+number_in value = option_and_then as_u64 (as_number value)
 
 -- a list that may be absent, which is then empty
 abbrev pub list_read : {A : Type 0} → (Data → Option A) → Option Data → Option (List A)
@@ -63,15 +63,15 @@ constant_named n = if n == 0 then Some (constant false) else (if n == 1 then Som
 -- a count may be absent, and is a number
 abbrev pub count_from : Option Data → Option (Option ℕ)
 count_from None = Some None
-count_from (Some value) = option_map Some (number_of value)
+count_from (Some value) = option_map Some (number_in value)
 
 abbrev pub stream_from : Data → Option Data → Option Availability
-stream_from view count = option_and_then (λ v. option_map (λ c. stream v c) (count_from count)) (number_of view)
+stream_from view count = option_and_then (λ v. option_map (λ c. stream v c) (count_from count)) (number_in view)
 
 -- exactly one of `constant` and `bitstream` is there; beside `bitstream` there may be an `availableCount`
 abbrev pub availability_from : Option Data → Option Data → Option Data → Option Availability
 availability_from (Some value) (Some view) count = None
-availability_from (Some value) None count = option_and_then constant_named (number_of value)
+availability_from (Some value) None count = option_and_then constant_named (number_in value)
 availability_from None (Some view) count = stream_from view count
 availability_from None None count = None
 

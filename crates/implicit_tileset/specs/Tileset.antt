@@ -28,13 +28,13 @@ abbrev pub templates_of : List Data → Option (List (List ℕ))
 templates_of values = each_read template_of values
 
 -- the content templates: that of `content`, or those of `contents`, or none
-abbrev pub contents_from : Option Data → Option Data → Option (List (List ℕ))
-contents_from (Some content) contents = option_map (λ t. t ∷ []) (template_of content)
-contents_from None (Some contents) = option_and_then (λ items. templates_of (list_of items)) (as_array contents)
-contents_from None None = Some []
+abbrev pub templates_from : Option Data → Option Data → Option (List (List ℕ))
+templates_from (Some content) contents = option_map (λ t. t ∷ []) (template_of content)
+templates_from None (Some contents) = option_and_then (λ items. templates_of (list_of items)) (as_array contents)
+templates_from None None = Some []
 
 abbrev pub contents_of : Data → Option (List (List ℕ))
-contents_of tile = contents_from (get (codes "content") tile) (get (codes "contents") tile)
+contents_of tile = templates_from (get (codes "content") tile) (get (codes "contents") tile)
 
 -- the layout that a value states, or its first fault of 4 to 12
 abbrev pub layout_of_value : Data → Result Layout ℕ

@@ -19,3 +19,10 @@ most_contents = 8
 -- the most bytes of a file
 abbrev pub most_file_bytes : ℕ
 most_file_bytes = 16777216
+
+-- the number of the last row of the table of faults of `tileset.json`, and of that of a subtree file
+abbrev pub most_layout_fault : ℕ
+most_layout_fault = 12
+
+abbrev pub most_subtree_fault : ℕ
+most_subtree_fault = 18

@@ -29,8 +29,8 @@ numbers (text ∷ texts) = option_and_then (λ n. option_map (λ ns. n ∷ ns) (
 abbrev pub numbers_of_pieces : List (List ℕ) → Option (List ℕ)
 numbers_of_pieces pieces = if length pieces == 2 || length pieces == 3 then numbers pieces else None
 
-abbrev pub coordinates : List ℕ → Option (List ℕ)
-coordinates text = numbers_of_pieces (slice_split (λ c. c == 44) text)
+abbrev pub coordinates_in : List ℕ → Option (List ℕ)
+coordinates_in text = numbers_of_pieces (slice_split (λ c. c == 44) text)
 
 pub record Line : Type 0 where
   pub level : ℕ
@@ -40,7 +40,7 @@ pub record Line : Type 0 where
 -- the line of three words
 abbrev pub line_of_words : List (List ℕ) → Option Line
 line_of_words (level ∷ lo ∷ hi ∷ []) =
-    option_and_then (λ l. option_and_then (λ a. option_map (λ b. record { level = l; lo = a; hi = b }) (coordinates hi)) (coordinates lo)) (number level)
+    option_and_then (λ l. option_and_then (λ a. option_map (λ b. record { level = l; lo = a; hi = b }) (coordinates_in hi)) (coordinates_in lo)) (number level)
 line_of_words words = None
 
 -- a number, a list and a list, joined by single spaces

@@ -34,15 +34,15 @@ written c None = c ∷ []
 written c (Some v) = decimal v.1
 
 -- how many bytes after the first belong to the variable
-abbrev pub passed : Option (List ℕ × ℕ) → ℕ
-passed None = 0
-passed (Some v) = length v.0 - 1
+abbrev pub bytes_passed : Option (List ℕ × ℕ) → ℕ
+bytes_passed None = 0
+bytes_passed (Some v) = length v.0 - 1
 
 -- the text with each variable replaced by its number, from left to right; the first n bytes belong to the last variable
 abbrev pub filled_past : List (List ℕ × ℕ) → ℕ → List ℕ → List ℕ
 filled_past vs n [] = []
 filled_past vs (suc n) (c ∷ text) = filled_past vs n text
-filled_past vs zero (c ∷ text) = let found = variable_at vs (c ∷ text) in written c found ++ filled_past vs (passed found) text
+filled_past vs zero (c ∷ text) = let found = variable_at vs (c ∷ text) in written c found ++ filled_past vs (bytes_passed found) text
 
 abbrev pub filled : Scheme → List ℕ → Tile → List ℕ
 filled scheme template t = filled_past (variables scheme t) 0 template

@@ -18,24 +18,24 @@ abbrev pub line : List (List ℕ) → List ℕ
 line parts = join_with_byte 9 parts ++ 10 ∷ []
 
 -- level, x, y and in octrees z
-abbrev pub coordinates : Scheme → Tile → List (List ℕ)
-coordinates Quad t = decimal t.level ∷ decimal t.x ∷ decimal t.y ∷ []
-coordinates Oct t = decimal t.level ∷ decimal t.x ∷ decimal t.y ∷ decimal t.z ∷ []
+abbrev pub coordinate_texts : Scheme → Tile → List (List ℕ)
+coordinate_texts Quad t = decimal t.level ∷ decimal t.x ∷ decimal t.y ∷ []
+coordinate_texts Oct t = decimal t.level ∷ decimal t.x ∷ decimal t.y ∷ decimal t.z ∷ []
 
 -- the templates whose bit of the mask is 1, filled, in order
-abbrev pub contents_from : Scheme → Tile → ℕ → ℕ → List (List ℕ) → List (List ℕ)
-contents_from scheme t m c [] = []
-contents_from scheme t m c (template ∷ templates) =
-    if m / 2 ^ c % 2 == 1 then filled scheme template t ∷ contents_from scheme t m (c + 1) templates else contents_from scheme t m (c + 1) templates
+abbrev pub content_texts : Scheme → Tile → ℕ → ℕ → List (List ℕ) → List (List ℕ)
+content_texts scheme t m c [] = []
+content_texts scheme t m c (template ∷ templates) =
+    if m / 2 ^ c % 2 == 1 then filled scheme template t ∷ content_texts scheme t m (c + 1) templates else content_texts scheme t m (c + 1) templates
 
 -- the line of a tile with the contents of a mask
 abbrev pub tile_line : Layout → Tile → ℕ → List ℕ
-tile_line layout t m = line (coordinates layout.scheme t ++ contents_from layout.scheme t m 0 layout.contents)
+tile_line layout t m = line (coordinate_texts layout.scheme t ++ content_texts layout.scheme t m 0 layout.contents)
 
 abbrev pub end_line : Scheme → ℕ → End → List ℕ
 end_line scheme n complete = line (codes "end" ∷ codes "complete" ∷ decimal n ∷ [])
 end_line scheme n too_many = line (codes "end" ∷ codes "too-many" ∷ decimal n ∷ [])
-end_line scheme n (fault r k) = line (codes "end" ∷ codes "fault" ∷ decimal n ∷ decimal k ∷ coordinates scheme r)
+end_line scheme n (fault r k) = line (codes "end" ∷ codes "fault" ∷ decimal n ∷ decimal k ∷ coordinate_texts scheme r)
 
 abbrev pub answer_text : Scene → Answer → List ℕ
 answer_text s a = flat_map (λ t. tile_line s.layout t (mask s t)) a.tiles ++ end_line s.layout.scheme (length a.tiles) a.end
@@ -62,7 +62,7 @@ text_of s (Err k) = refused_text k
 
 -- the text of a check: a line for each fault, and an end line
 abbrev pub fault_line : Scheme → Tile × ℕ → List ℕ
-fault_line scheme found = line (codes "fault" ∷ decimal found.1 ∷ coordinates scheme found.0)
+fault_line scheme found = line (codes "fault" ∷ decimal found.1 ∷ coordinate_texts scheme found.0)
 
 abbrev pub check_end_line : Bool → ℕ → ℕ → List ℕ
 check_end_line true looked faults = line (codes "end" ∷ codes "too-many" ∷ decimal looked ∷ decimal faults ∷ [])

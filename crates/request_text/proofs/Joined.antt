@@ -8,7 +8,7 @@ use Rattle.implicit_tiling.specs.declared.Scheme.{Scheme}
 use Rattle.implicit_tiling.specs.declared.Scheme.TheVariants.{Quad, Oct}
 use Rattle.implicit_tiling.specs.Tile.{Tile}
 use Rattle.implicit_tiling.specs.Scene.{Layout}
-use Rattle.implicit_tiling.specs.Text.{coordinates, contents_from, tile_line}
+use Rattle.implicit_tiling.specs.Text.{coordinate_texts, content_texts, tile_line}
 use Rattle.request_text.specs.Fields.{joined, after_tab}
 
 -- the first field, and each other behind its TAB
@@ -24,7 +24,7 @@ joined_append field fields more =
     ∙ ap (λ w. w ++ flat_map after_tab more) (sym (joined_tabs field fields))
 
 -- the fields of a tile's place, and more
-pub place_and_more : (scheme : Scheme) (t : Tile) (more : List (List ℕ)) → joined (coordinates scheme t ++ more) ≡ joined (coordinates scheme t) ++ flat_map after_tab more
+pub place_and_more : (scheme : Scheme) (t : Tile) (more : List (List ℕ)) → joined (coordinate_texts scheme t ++ more) ≡ joined (coordinate_texts scheme t) ++ flat_map after_tab more
 place_and_more Quad t more = joined_append (decimal t.level) (decimal t.x ∷ decimal t.y ∷ []) more
 place_and_more Oct t more = joined_append (decimal t.level) (decimal t.x ∷ decimal t.y ∷ decimal t.z ∷ []) more
 
@@ -35,23 +35,23 @@ on_ok (Err fault) P Q f h = h
 
 -- a line is the place of its tile, the contents and LF
 pub line_written : (layout : Layout) (scheme : Scheme) (contents : List (List ℕ)) (t : Tile) (m : ℕ) (old one two three : List ℕ) → scheme ≡ layout.scheme → contents ≡ layout.contents
-    → one ≡ old ++ joined (coordinates scheme t) → two ≡ one ++ flat_map after_tab (contents_from scheme t m 0 contents) → three ≡ two ++ (10 ∷ []) → three ≡ old ++ tile_line layout t m
+    → one ≡ old ++ joined (coordinate_texts scheme t) → two ≡ one ++ flat_map after_tab (content_texts scheme t m 0 contents) → three ≡ two ++ (10 ∷ []) → three ≡ old ++ tile_line layout t m
 line_written layout scheme contents t m old one two three same_scheme same_contents first second third =
-    let place = joined (coordinates layout.scheme t) in
-    let names = flat_map after_tab (contents_from layout.scheme t m 0 layout.contents) in
-    let one_is : one ≡ old ++ place = first ∙ ap (λ s. old ++ joined (coordinates s t)) same_scheme in
-    let two_is : two ≡ one ++ names = second ∙ ap (λ s. one ++ flat_map after_tab (contents_from s t m 0 contents)) same_scheme
-    ∙ ap (λ cs. one ++ flat_map after_tab (contents_from layout.scheme t m 0 cs)) same_contents in
-    let whole : joined (coordinates layout.scheme t ++ contents_from layout.scheme t m 0 layout.contents) ≡ place ++ names = place_and_more layout.scheme t (contents_from layout.scheme t m 0 layout.contents) in
+    let place = joined (coordinate_texts layout.scheme t) in
+    let names = flat_map after_tab (content_texts layout.scheme t m 0 layout.contents) in
+    let one_is : one ≡ old ++ place = first ∙ ap (λ s. old ++ joined (coordinate_texts s t)) same_scheme in
+    let two_is : two ≡ one ++ names = second ∙ ap (λ s. one ++ flat_map after_tab (content_texts s t m 0 contents)) same_scheme
+    ∙ ap (λ cs. one ++ flat_map after_tab (content_texts layout.scheme t m 0 cs)) same_contents in
+    let whole : joined (coordinate_texts layout.scheme t ++ content_texts layout.scheme t m 0 layout.contents) ≡ place ++ names = place_and_more layout.scheme t (content_texts layout.scheme t m 0 layout.contents) in
     third ∙ ap (λ w. w ++ (10 ∷ [])) (two_is ∙ ap (λ w. w ++ names) one_is ∙ append_assoc old place names)
     ∙ append_assoc old (place ++ names) (10 ∷ []) ∙ ap (λ w. old ++ (w ++ (10 ∷ []))) (sym whole)
 
 -- and its length that of these parts
 pub length_of_line : (layout : Layout) (scheme : Scheme) (contents : List (List ℕ)) (t : Tile) (m place names : ℕ) → scheme ≡ layout.scheme → contents ≡ layout.contents
-    → place ≡ length (joined (coordinates scheme t)) → names ≡ length (flat_map after_tab (contents_from scheme t m 0 contents)) → place + names + 1 ≡ length (tile_line layout t m)
+    → place ≡ length (joined (coordinate_texts scheme t)) → names ≡ length (flat_map after_tab (content_texts scheme t m 0 contents)) → place + names + 1 ≡ length (tile_line layout t m)
 length_of_line layout scheme contents t m place names same_scheme same_contents first second =
-    let fields = joined (coordinates scheme t) in
-    let more = flat_map after_tab (contents_from scheme t m 0 contents) in
+    let fields = joined (coordinate_texts scheme t) in
+    let more = flat_map after_tab (content_texts scheme t m 0 contents) in
     let whole : (fields ++ more) ++ (10 ∷ []) ≡ tile_line layout t m =
     line_written layout scheme contents t m [] fields (fields ++ more) ((fields ++ more) ++ (10 ∷ [])) same_scheme same_contents refl refl refl in
     omega (arith, first, second, length-append (fields ++ more) (10 ∷ []), length-append fields more, ap (λ w. length w) whole)

@@ -7,7 +7,7 @@ use Rattle.std.specs.Str.Parse.{digits_value}
 use Rattle.std.proofs.lemmas.List.Elements.{All-nil, All-cons, All-append}
 use Rattle.std.proofs.lemmas.List.Splits.{slice_split_none, slice_split_at, join_with_byte-slice_split}
 use Rattle.std.proofs.lemmas.Bool.{and_parts, leb-true, ne_eqb, false≢true}
-use Rattle.implicit_tiling.specs.Request.{has_digits, number, numbers, coordinates, line_of_words, Line}
+use Rattle.implicit_tiling.specs.Request.{has_digits, number, numbers, coordinates_in, line_of_words, Line}
 use Rattle.request_text.specs.Laws.{JoinedIsItsWords}
 
 -- no byte is a space
@@ -53,7 +53,7 @@ of_joined (x ∷ y ∷ texts) all =
     All-append (λ c. (c == 32) ≡ false) x (44 ∷ join_with_byte 44 (y ∷ texts)) all.0
     (All-cons (λ c. (c == 32) ≡ false) 44 (join_with_byte 44 (y ∷ texts)) refl (of_joined (y ∷ texts) all.1))
 
-of_coordinates : (text : List ℕ) → is_some (coordinates text) ≡ true → HasNoSpace text
+of_coordinates : (text : List ℕ) → is_some (coordinates_in text) ≡ true → HasNoSpace text
 of_coordinates text is =
     let pieces = slice_split (λ c. c == 44) text in
     let read = (passed _ (numbers pieces) is).1 in
@@ -78,5 +78,5 @@ pieces_of_joined level lo hi one two three =
 
 pub a_joined_line_is_its_words : JoinedIsItsWords
 a_joined_line_is_its_words level lo hi is =
-    let parts = all_three (number level) (coordinates lo) (coordinates hi) is in
+    let parts = all_three (number level) (coordinates_in lo) (coordinates_in hi) is in
     ap line_of_words (pieces_of_joined level lo hi (of_number level parts.0) (of_coordinates lo parts.1) (of_coordinates hi parts.2))

@@ -14,8 +14,8 @@ use Rattle.std.proofs.lemmas.List.Splits.{slice_split_none, slice_split_first, l
 use Rattle.std.proofs.lemmas.Str.Parse.{IsNumeralModel, IsDigitsTest, numerals_by_value, parse_digits}
 use Rattle.std.proofs.lemmas.Bool.{and_parts, ltb-true, ltb-false, lt-ltb, le-ltb, leb-true, ne_eqb, false≢true}
 use denote.Ref.{Bor}
-use Rattle.implicit_tiling.specs.Request.{has_digits, number, numbers_of_pieces, coordinates, line_of_words, line_of}
-use Rattle.request_text.specs.Lines.{IsCut}
+use Rattle.implicit_tiling.specs.Request.{has_digits, number, numbers_of_pieces, coordinates_in, line_of_words, line_of}
+use Rattle.request_text.specs.Lines.{IsSplitOnce}
 
 -- digits are those of `parse`
 digits_test : IsDigitsTest (λ ds. list_all is_ascii_digit ds ≡ true)
@@ -79,14 +79,14 @@ four x y z more some =
 
 -- a text of three pieces or more, of which the third was cut
 pieces : (separator : ℕ) (text rest z x y : List ℕ) (r : Option (Bor (List ℕ) × Bor (List ℕ))) → slice_split (λ c. c == separator) text ≡ x ∷ slice_split (λ c. c == separator) rest
-    → slice_split (λ c. c == separator) rest ≡ y ∷ slice_split (λ c. c == separator) z → IsCut separator z r → is_some r ≡ true
+    → slice_split (λ c. c == separator) rest ≡ y ∷ slice_split (λ c. c == separator) z → IsSplitOnce separator z r → is_some r ≡ true
     → (w : List ℕ) × (more : List (List ℕ)) × (slice_split (λ c. c == separator) text ≡ x ∷ y ∷ w ∷ more) × (1 ≤ length more)
 pieces separator text rest z x y None one two cut some = absurd (false≢true some)
 pieces separator text rest z x y (Some r) one two cut some =
     (r.0.now, slice_split (λ c. c == separator) r.1.now, one ∙ ap (λ w. x ∷ w) (two ∙ ap (λ w. y ∷ w) cut), some_pieces separator r.1.now)
 
 pub too_many : (text rest z x y : List ℕ) (r : Option (Bor (List ℕ) × Bor (List ℕ))) → slice_split (λ c. c == 44) text ≡ x ∷ slice_split (λ c. c == 44) rest
-    → slice_split (λ c. c == 44) rest ≡ y ∷ slice_split (λ c. c == 44) z → IsCut 44 z r → is_some r ≡ true → None ≡ coordinates text
+    → slice_split (λ c. c == 44) rest ≡ y ∷ slice_split (λ c. c == 44) z → IsSplitOnce 44 z r → is_some r ≡ true → None ≡ coordinates_in text
 too_many text rest z x y r one two cut some =
     let parts = pieces 44 text rest z x y r one two cut some in
     sym (ap numbers_of_pieces parts.2 ∙ four x y parts.0 parts.1 parts.3)
@@ -96,7 +96,7 @@ four_words a b c [] some = absurd (omega (arith, some))
 four_words a b c (d ∷ more) some = refl
 
 pub too_many_words : (text rest z x y : List ℕ) (r : Option (Bor (List ℕ) × Bor (List ℕ))) → slice_split (λ c. c == 32) text ≡ x ∷ slice_split (λ c. c == 32) rest
-    → slice_split (λ c. c == 32) rest ≡ y ∷ slice_split (λ c. c == 32) z → IsCut 32 z r → is_some r ≡ true → None ≡ line_of text
+    → slice_split (λ c. c == 32) rest ≡ y ∷ slice_split (λ c. c == 32) z → IsSplitOnce 32 z r → is_some r ≡ true → None ≡ line_of text
 too_many_words text rest z x y r one two cut some =
     let parts = pieces 32 text rest z x y r one two cut some in
     sym (ap line_of_words parts.2 ∙ four_words x y parts.0 parts.1 parts.3)

@@ -1,4 +1,4 @@
--- The fields of a line, which a TAB joins (this project's own).
+-- For proofs and inner functions: the fields of a line, which a TAB joins (this project's own).
 use Rattle.std.specs.Prelude.{ℕ, List, ◌∷◌}
 use Rattle.std.specs.List.{join_with_byte}
 

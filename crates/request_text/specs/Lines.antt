@@ -1,4 +1,4 @@
--- What the parts of a request line are read to (this project's own).
+-- For proofs and inner functions: what the parts of a request line are read to (this project's own).
 use Rattle.std.specs.Prelude.{ℕ, ◌≡◌, ◌==◌, List, [], ◌∷◌, length, Option, Some, None, if◌then◌else◌}
 use Rattle.std.specs.List.{slice_split}
 use denote.Ref.{Bor}
@@ -23,14 +23,14 @@ abbrev pub places_of : Scheme → List ℕ → Option (List ℕ)
 places_of scheme cs = if length cs == axes scheme then Some (three cs) else None
 
 -- the numbers of the refusals
-abbrev pub numbered : Refusal → ℕ
-numbered NotALine = 1
-numbered OtherAxes = 2
-numbered LevelHigh = 3
-numbered BoxOrder = 4
-numbered BoxOut = 5
+abbrev pub refusal_number : Refusal → ℕ
+refusal_number NotALine = 1
+refusal_number OtherAxes = 2
+refusal_number LevelHigh = 3
+refusal_number BoxOrder = 4
+refusal_number BoxOut = 5
 
 -- the parts before and behind the first separator, or the text alone
-abbrev pub IsCut : ℕ → List ℕ → Option (Bor (List ℕ) × Bor (List ℕ)) → Type 0
-IsCut separator text None = slice_split (λ c. c == separator) text ≡ text ∷ []
-IsCut separator text (Some r) = slice_split (λ c. c == separator) text ≡ r.0.now ∷ slice_split (λ c. c == separator) r.1.now
+abbrev pub IsSplitOnce : ℕ → List ℕ → Option (Bor (List ℕ) × Bor (List ℕ)) → Type 0
+IsSplitOnce separator text None = slice_split (λ c. c == separator) text ≡ text ∷ []
+IsSplitOnce separator text (Some r) = slice_split (λ c. c == separator) text ≡ r.0.now ∷ slice_split (λ c. c == separator) r.1.now

@@ -2,7 +2,7 @@
 ghost use Rattle.std.specs.Prelude.{◌≡◌, ◌++◌, ◌∷◌, [], OnOk, string_bytes};
 ghost use Rattle.std.specs.Fmt.{decimal};
 ghost use Rattle.implicit_tiling.specs.Code.{IsWord, word_tile};
-ghost use Rattle.implicit_tiling.specs.Text.{coordinates};
+ghost use Rattle.implicit_tiling.specs.Text.{coordinate_texts};
 ghost use Rattle.request_text.specs.Fields.{joined, after_tab};
 
 use availability::{WordTile, tile_of};
@@ -22,7 +22,7 @@ pub(crate) fn push_count(text: &str, count: usize, piece: &mut String) -> Result
 // Appends the level and the coordinates of the tile of a word, joined by TAB.
 pub(crate) fn push_place(scheme: Scheme, word: Word, piece: &mut String) -> Result<(), AllocError>
     requires { IsWord scheme word }
-    ensures { OnOk result (string_bytes piece.new ≡ string_bytes piece.old ++ joined (coordinates scheme (word_tile scheme word))) }
+    ensures { OnOk result (string_bytes piece.new ≡ string_bytes piece.old ++ joined (coordinate_texts scheme (word_tile scheme word))) }
 {
     let Some(WordTile { tile, .. }) = tile_of(scheme, word) else {
         unreachable!()
@@ -36,7 +36,7 @@ pub(crate) fn push_coordinates(
     tile: &Tile,
     piece: &mut String,
 ) -> Result<(), AllocError>
-    ensures { OnOk result (string_bytes piece.new ≡ string_bytes piece.old ++ joined (coordinates scheme tile.now)) }
+    ensures { OnOk result (string_bytes piece.new ≡ string_bytes piece.old ++ joined (coordinate_texts scheme tile.now)) }
 {
     push_number(u64::from(tile.level), piece)?;
     push_field(u64::from(tile.x), piece)?;

@@ -4,7 +4,7 @@ ghost use Rattle.std.specs.List.{flat_map, All};
 ghost use Rattle.std.specs.Fmt.{decimal};
 ghost use Rattle.implicit_tiling.specs.Code.{IsWord, word_tile};
 ghost use Rattle.implicit_tiling.specs.Answer.{fault, most_tiles};
-ghost use Rattle.implicit_tiling.specs.Text.{coordinates, contents_from, tile_line, word_line, words_text, end_line, step_end_line};
+ghost use Rattle.implicit_tiling.specs.Text.{coordinate_texts, content_texts, tile_line, word_line, words_text, end_line, step_end_line};
 ghost use Rattle.tile_coords.specs.Ends.{end_seen, EndsAtRoot};
 ghost use Rattle.request_text.specs.Fields.{joined, after_tab};
 
@@ -91,7 +91,7 @@ fn length_of_fault(scheme: Scheme, count: usize, root: Word, number: u64) -> u64
 
 // The length of the level and the coordinates of a tile, joined by TAB.
 fn length_of_place(scheme: Scheme, tile: &Tile) -> u64
-    ensures length { result ≡ length (joined (coordinates scheme tile.now)) }
+    ensures length { result ≡ length (joined (coordinate_texts scheme tile.now)) }
     ensures short { result ≤ 100 }
 {
     let flat = digits_of(u64::from(tile.level))
@@ -108,7 +108,7 @@ fn length_of_place(scheme: Scheme, tile: &Tile) -> u64
 // The length of the filled templates whose bit of the mask is 1, each with a TAB.
 fn length_of_contents(scheme: Scheme, contents: &[Template], tile: &Tile, mask: u8) -> u64
     requires { length contents.now ≤ 8 }
-    ensures length { result ≡ length (flat_map after_tab (contents_from scheme tile.now mask 0 contents.now)) }
+    ensures length { result ≡ length (flat_map after_tab (content_texts scheme tile.now mask 0 contents.now)) }
     ensures short { result ≤ 90000 }
 {
     let mut count = 0u64;

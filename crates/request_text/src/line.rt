@@ -2,8 +2,8 @@
 ghost use Rattle.std.specs.Prelude.{◌≡◌, ◌==◌, ◌<◌, ◌≤◌, ◌&&◌, ◌∷◌, [], Some, None, IfSome, is_some, position, option_map, slice_index, if◌then◌else◌, length};
 ghost use Rattle.std.specs.List.{list_all};
 ghost use Rattle.std.specs.Char.{is_ascii_digit};
-ghost use Rattle.implicit_tiling.specs.Request.{number as number_in, coordinates as coordinates_in, has_digits as digits_in, begins_well as begins, line_of_words, line_of as line_in, plan_of_line};
-ghost use Rattle.request_text.specs.Lines.{line_seen, coordinates_seen, places_of, numbered, IsCut};
+ghost use Rattle.implicit_tiling.specs.Request.{number as number_in, coordinates_in, has_digits as digits_in, begins_well as begins, line_of_words, line_of as line_in, plan_of_line};
+ghost use Rattle.request_text.specs.Lines.{line_seen, coordinates_seen, places_of, refusal_number, IsSplitOnce};
 
 use tile_coords::{Plan, Region, RegionFault, Scheme};
 use tileset_json::Layout;
@@ -41,7 +41,7 @@ pub enum Refusal {
 impl Refusal {
     /// The number of the refusal, 1 to 5.
     pub fn number(self) -> u64
-        ensures { result ≡ numbered self }
+        ensures { result ≡ refusal_number self }
     {
         match self {
             Refusal::NotALine => 1,
@@ -175,7 +175,7 @@ fn read_coordinates(text: &[u8]) -> Option<Coordinates>
 
 // A text cut at its first separator.
 fn cut(text: &[u8], separator: u8) -> Option<(&[u8], &[u8])>
-    ensures { IsCut separator text.now result }
+    ensures { IsSplitOnce separator text.now result }
 {
     let at = first_separator(text, separator)?;
     Some((&text[..at], &text[at + 1..]))

@@ -6,7 +6,7 @@ ghost use Rattle.std.specs.Io.KnownBytes.{Appends};
 ghost use Rattle.implicit_tiling.specs.Code.{IsWord, word_tile};
 ghost use Rattle.implicit_tiling.specs.Answer.{fault};
 ghost use Rattle.implicit_tiling.specs.Template.{filled};
-ghost use Rattle.implicit_tiling.specs.Text.{coordinates, contents_from, tile_line, word_line, words_text, end_line, step_end_line, refused_text};
+ghost use Rattle.implicit_tiling.specs.Text.{coordinate_texts, content_texts, tile_line, word_line, words_text, end_line, step_end_line, refused_text};
 ghost use Rattle.tile_coords.specs.Ends.{end_seen, EndsAtRoot};
 ghost use Rattle.scene_ports.specs.Counts.{Rose};
 ghost use Rattle.scene_ports.specs.Output.{GivesFront};
@@ -140,7 +140,7 @@ fn push_contents(
     piece: &mut String,
 ) -> Result<(), AllocError>
     requires { length contents.now ≤ 8 }
-    ensures { OnOk result (string_bytes piece.new ≡ string_bytes piece.old ++ flat_map after_tab (contents_from scheme tile.now mask 0 contents.now)) }
+    ensures { OnOk result (string_bytes piece.new ≡ string_bytes piece.old ++ flat_map after_tab (content_texts scheme tile.now mask 0 contents.now)) }
 {
     for (content, template) in contents.iter().enumerate() {
         if mask >> content & 1 == 1 {

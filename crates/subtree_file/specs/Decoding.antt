@@ -3,6 +3,7 @@ use Rattle.std.specs.Prelude.{ℕ, ◌≡◌, ◌≤◌, Bool, false, List, map,
 use Rattle.std.specs.List.{list_any, range_with_len}
 use Rattle.std.specs.declared.alloc.Global.{Global}
 use Rattle.implicit_tiling.specs.Checks.{need, refuse}
+use Rattle.implicit_tiling.specs.Limits.{most_subtree_fault}
 use Rattle.implicit_tiling.specs.Tile.{Tile}
 use Rattle.implicit_tiling.specs.Scene.{Layout}
 use Rattle.implicit_tiling.specs.Subtree.{Subtree}
@@ -26,7 +27,7 @@ DecodesList stated (Err Memory) = Unit {0}
 -- a fault has a number of the table of faults of a subtree file
 abbrev pub IsNumbered : {A : Type 0} → Result A DecodeFault → Type 0
 IsNumbered (Ok a) = Unit {0}
-IsNumbered (Err (Fault n)) = (3 ≤ n) × (n ≤ 18)
+IsNumbered (Err (Fault n)) = (3 ≤ n) × (n ≤ most_subtree_fault)
 IsNumbered (Err Memory) = Unit {0}
 
 -- the availabilities that are used, or fault 11 where a content that is wanted is malformed

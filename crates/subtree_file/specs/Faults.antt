@@ -1,4 +1,4 @@
--- The numbers of the faults of a subtree file that its record and its bits show (this project's own).
+-- For proofs and inner functions: the numbers of the faults of a subtree file that its record and its bits show (this project's own).
 use Rattle.std.specs.Prelude.{ℕ, Option, Some, None}
 use Rattle.subtree_file.specs.declared.fault.BitsFault.{BitsFault}
 use Rattle.subtree_file.specs.declared.fault.BitsFault.TheVariants.{ViewUnknown, ExternalBuffer, ViewOut, BitsShort, CountWrong, ParentMissing, ContentWithoutTile}

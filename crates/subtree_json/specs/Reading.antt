@@ -15,9 +15,9 @@ IsStated stated (Some n) = stated ≡ Err n
 IsStated stated None = Unit {0}
 
 -- what is stated, or its fault, unless there isn't enough memory
-abbrev pub Reads : {A : Type 0} → Result A ℕ → Result A JsonFault → Type 0
-Reads stated (Ok a) = stated ≡ Ok a
-Reads stated (Err fault) = IsStated stated (fault_number fault)
+abbrev pub ReadsPart : {A : Type 0} → Result A ℕ → Result A JsonFault → Type 0
+ReadsPart stated (Ok a) = stated ≡ Ok a
+ReadsPart stated (Err fault) = IsStated stated (fault_number fault)
 
 -- the same of a list, in a `Vec`
 abbrev pub ReadsList : {A : Type 0} → Result (List A) ℕ → Result (Vec A Global) JsonFault → Type 0

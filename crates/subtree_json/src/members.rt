@@ -1,7 +1,7 @@
 // One member of a list each, and availability objects.
 ghost use Rattle.std.specs.Prelude.{◌≡◌, option_and_then, option_map};
 ghost use Rattle.serde_json.specs.View.{view};
-ghost use Rattle.implicit_tileset.specs.Record.{buffer_of as stated_buffer, view_of as stated_view, availability_of as stated_availability, availability_at as stated_at, content_of as stated_content, constant_named, number_of, stream_from};
+ghost use Rattle.implicit_tileset.specs.Record.{buffer_of as stated_buffer, view_of as stated_view, availability_of as stated_availability, availability_at as stated_at, content_of as stated_content, constant_named, number_in, stream_from};
 ghost use Rattle.subtree_json.specs.Seen.{availability_seen, content_seen};
 
 use crate::part::{Availability, BufferPart, ContentPart, ViewPart};
@@ -70,7 +70,7 @@ fn availability_of(value: &Value) -> Option<Availability>
 
 // The availability of a `constant`, which is 0 or 1.
 fn constant_of(value: &Value) -> Option<Availability>
-    ensures { option_map availability_seen result ≡ option_and_then constant_named (number_of (view value.now)) }
+    ensures { option_map availability_seen result ≡ option_and_then constant_named (number_in (view value.now)) }
 {
     match value.as_u64()? {
         0 => Some(Availability::Constant(false)),

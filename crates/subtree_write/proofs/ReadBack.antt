@@ -6,6 +6,7 @@ use Rattle.std.proofs.Math.Nat.{pow-le-pow_right}
 use Rattle.std.proofs.lemmas.Bool.{le-ltb}
 use Rattle.std.proofs.lemmas.List.{take_all}
 use Rattle.serde_json.specs.Written.{compact_text}
+use Rattle.implicit_tiling.proofs.Tables.{refuse-past}
 use Rattle.implicit_tiling.specs.declared.Scheme.{Scheme}
 use Rattle.implicit_tiling.specs.declared.Scheme.TheVariants.{Quad, Oct}
 use Rattle.implicit_tiling.specs.Checks.{refuse, need}
@@ -149,19 +150,16 @@ well_formed_all (a ∷ named) = ap (option_map (λ l. a ∷ l)) (well_formed_all
 
 -- ---- the subtree that is held
 
-passed : {A : Type 0} (n : ℕ) (test : Bool) (rest : Result A ℕ) → test ≡ false → refuse n test rest ≡ rest
-passed n test rest e = ap (λ b. refuse n b rest) e
-
 rows_pass : (layout : Layout) (root : Tile) (h : Held) (contents : List Availability) (us : List Used) → AllPass h us → subtree_held layout root h contents us ≡ subtree_checked (subtree_from layout root h contents)
 rows_pass layout root h contents us all =
-    passed 12 (list_any (λ u. names_no_view h u.availability) us) _ (no_row h (λ u. names_no_view h u.availability) us (λ u p. p.viewed) all)
-    ∙ passed 13 (list_any (λ u. is_external h u.availability) us) _ (no_row h (λ u. is_external h u.availability) us (λ u p. p.internal) all)
-    ∙ passed 14 (list_any (λ u. is_out h u.availability) us) _ (no_row h (λ u. is_out h u.availability) us (λ u p. p.inside) all)
-    ∙ passed 15 (list_any (is_short h) us) _ (no_row h (is_short h) us (λ u p. p.enough) all)
-    ∙ passed 16 (list_any (is_miscounted h) us) _ (no_row h (is_miscounted h) us (λ u p. p.counted) all)
+    refuse-past 12 (list_any (λ u. names_no_view h u.availability) us) _ (no_row h (λ u. names_no_view h u.availability) us (λ u p. p.viewed) all)
+    ∙ refuse-past 13 (list_any (λ u. is_external h u.availability) us) _ (no_row h (λ u. is_external h u.availability) us (λ u p. p.internal) all)
+    ∙ refuse-past 14 (list_any (λ u. is_out h u.availability) us) _ (no_row h (λ u. is_out h u.availability) us (λ u p. p.inside) all)
+    ∙ refuse-past 15 (list_any (is_short h) us) _ (no_row h (is_short h) us (λ u p. p.enough) all)
+    ∙ refuse-past 16 (list_any (is_miscounted h) us) _ (no_row h (is_miscounted h) us (λ u p. p.counted) all)
 
 checked : (s : Subtree) → KeepsRules s → subtree_checked s ≡ Ok s
-checked s rules = passed 17 _ _ rules.no_orphan ∙ passed 18 _ _ rules.no_content_alone
+checked s rules = refuse-past 17 _ _ rules.no_orphan ∙ refuse-past 18 _ _ rules.no_content_alone
 
 -- a layout that has no more than the subtree's own numbers and some templates
 abbrev own_layout : Subtree → List ℕ → List (List ℕ) → Layout

@@ -7,7 +7,8 @@ use Rattle.serde_json.specs.Read.{of_members}
 use Rattle.serde_json.specs.View.{items_of}
 use Rattle.serde_json.specs.Written.{members_outline}
 use Rattle.bitstream.specs.Bytes.{bytes_filled}
-use Rattle.subtree_write.specs.Canonical.{aligned, is_mixed, has_one, streams_of, whole_number, view_value, view_values, buffer_values, constant_value, stream_value, availability_value, availability_values, list_member, file_value}
+use Rattle.implicit_tileset.specs.Json.{whole_number}
+use Rattle.subtree_write.specs.Canonical.{aligned, is_mixed, has_one, streams_of, view_value, view_values, buffer_values, constant_value, stream_value, availability_value, availability_values, list_member, file_value}
 use Rattle.subtree_write.specs.Members.{with_list}
 use Rattle.subtree_write.proofs.Mixed.{ones, ones-le}
 use Rattle.subtree_write.proofs.Texts.{ReadsAs, ItemsRead, MembersRead, IsName, number_reads, no_items_read, item_reads, array_reads, no_members_read, member_reads, object_reads, member_step, reads_more}

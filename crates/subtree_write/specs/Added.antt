@@ -1,4 +1,4 @@
--- What writing some availabilities adds (this project's own).
+-- For proofs and inner functions: what writing some availabilities adds (this project's own).
 use Rattle.std.specs.Prelude.{◌≡◌, List, Bool, ◌++◌, length, map}
 use Rattle.serde_json.specs.View.{view}
 use Rattle.subtree_write.specs.Canonical.{streams_of, stream_bytes, view_values}

@@ -3,10 +3,11 @@
 use Rattle.std.specs.Prelude.{ℕ, ◌+◌, ◌-◌, ◌*◌, ◌/◌, ◌&&◌, not, Bool, List, [], ◌∷◌, ◌++◌, length, replicate, codes, if◌then◌else◌}
 use Rattle.std.specs.List.{list_any, filter, flat_map, count_by}
 use Rattle.std.specs.Int.{w32, w64, to_le_bytes}
-use Rattle.serde_json.specs.Data.{Data, number, unsigned, array, object, Members, no_members, member}
+use Rattle.serde_json.specs.Data.{Data, array, object, Members, no_members, member}
 use Rattle.serde_json.specs.View.{items_of}
 use Rattle.serde_json.specs.Written.{compact_text}
 use Rattle.bitstream.specs.Bytes.{bytes_filled, bytes_of_bits}
+use Rattle.implicit_tileset.specs.Json.{whole_number}
 use Rattle.implicit_tiling.specs.Subtree.{Subtree}
 
 -- the least multiple of 8 that isn't below n, and bytes that are filled up to it
@@ -44,9 +45,6 @@ abbrev pub binary : Subtree → List ℕ
 binary s = stream_bytes (streams s)
 
 -- ---- the JSON part: members in the order of their names
-
-abbrev pub whole_number : ℕ → Data
-whole_number n = number (unsigned n)
 
 abbrev pub view_value : ℕ → ℕ → Data
 view_value offset size = object (member (codes "buffer") (whole_number 0) (member (codes "byteLength") (whole_number size) (member (codes "byteOffset") (whole_number offset) no_members)))

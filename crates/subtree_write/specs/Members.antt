@@ -1,4 +1,4 @@
--- The members of a subtree's JSON by their parts (this project's own).
+-- For proofs and inner functions: the members of a subtree's JSON by their parts (this project's own).
 use Rattle.std.specs.Prelude.{ℕ, List, [], ◌∷◌}
 use Rattle.serde_json.specs.Data.{Data, array, Members, put}
 use Rattle.serde_json.specs.View.{items_of}

@@ -1,4 +1,4 @@
--- The places of the tiles of some words, and the bits of their contents (OGC 22-025r4, implicit tiling: content availability).
+-- For proofs and inner functions: the places of the tiles of some words, and the bits of their contents (OGC 22-025r4, implicit tiling: content availability).
 use Rattle.std.specs.Prelude.{ℕ, Bool, List, length, map, filter}
 use Rattle.std.specs.List.{range_with_len}
 use Rattle.implicit_tiling.specs.Availability.{place}

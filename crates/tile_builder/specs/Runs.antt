@@ -1,4 +1,4 @@
--- The words of the tiles so many levels below a root (this project's own).
+-- For proofs and inner functions: the words of the tiles so many levels below a root (this project's own).
 use Rattle.std.specs.Prelude.{ℕ, ◌+◌, ◌*◌, ◌^◌, ◌&&◌, ◌==◌, nat_lt, nat_le, Bool, List, filter}
 use Rattle.std.specs.List.{flat_map, range_with_len}
 use Rattle.implicit_tiling.specs.declared.Scheme.{Scheme}

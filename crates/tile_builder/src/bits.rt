@@ -79,7 +79,7 @@ fn child_place(layout: &Layout, root: Word) -> u64
     index_of(layout.scheme, &tile) % nodes_at(layout.scheme, layout.subtree_levels)
 }
 
-// For each content a bit for each node of a subtree: those of the words with the content are 1, each of which has its place
+// The bits of each content: one bit for each node of a subtree, which is 1 where a word with the content has its place there
 // (OGC 22-025r4, content availability).
 pub(crate) fn content_bits(
     alloc: Global,

@@ -2,7 +2,7 @@
 ghost use Rattle.std.specs.Prelude.{◌≡◌, ◌≤◌, slice_index};
 ghost use Rattle.implicit_tiling.specs.Tile.{depth_of};
 ghost use Rattle.implicit_tiling.specs.Region.{is_in, region_of, is_within as within};
-ghost use Rattle.tile_coords.specs.Refusals.{numbered};
+ghost use Rattle.tile_coords.specs.Refusals.{with_fault_number};
 
 use crate::tile::Tile;
 use implicit_tiling::Scheme;
@@ -53,7 +53,7 @@ impl Region {
     ) -> Result<Region, RegionFault>
         requires levels { levels ≤ 32 }
         requires flat { (slice_index lo 2 ≡ depth_of scheme (slice_index lo 2)) × (slice_index hi 2 ≡ depth_of scheme (slice_index hi 2)) }
-        ensures { numbered result ≡ region_of levels level lo hi }
+        ensures { with_fault_number result ≡ region_of levels level lo hi }
     {
         let _ = scheme;
         if level >= levels {
@@ -69,8 +69,8 @@ impl Region {
         Ok(Region { level, lo, hi })
     }
 
-    /// Whether the tile is in the region: its level is at most the region's, and each of its coordinates is within
-    /// the box as its own level sees it.
+    /// Whether the tile is in the region: its level is at most the region's, and each of its coordinates lies between
+    /// those of the box's corners, divided by 2 for each level that the tile stands above the region's.
     pub fn meets(&self, tile: &Tile) -> bool
         ensures { result ≡ is_in self.now tile.now }
     {

@@ -15,7 +15,7 @@ use Rattle.tiling_laws.proofs.Ancestors.{ancestor_is_tile}
 use Rattle.tiling_laws.proofs.Rising.{rising_tiles_are_one, in_filtered}
 use Rattle.tile_occupancy.specs.Occupied.{is_same, tiles_of, IsOccupancy}
 use Rattle.availability.proofs.Tiles.{mask_of_word, word_tile_level}
-use Rattle.tile_occupancy.specs.Generated.{point, contents_mask, IsGenerated, is_generated, generated_tiles, generated_word, generated_words, AreGenerated}
+use Rattle.tile_occupancy.specs.Generated.{point, generated_mask, IsGenerated, is_generated, generated_tiles, generated_word, generated_words, AreGenerated}
 use Rattle.tile_occupancy.proofs.Keys.{has_word}
 use Rattle.tile_occupancy.proofs.Generated.{mask_below, mask_fits}
 use Rattle.tile_occupancy.proofs.Same.{same_is_decided}
@@ -86,13 +86,13 @@ words_are scheme levels contents points number ws some tiles whole generated =
 
 -- the mask of a word is that of its level, and has no content past the last
 pub masks_are : (scheme : Scheme) (levels contents points number : ℕ) (ws : List ℕ) → contents ≤ most_contents → IsOccupancy scheme levels ws
-    → AreGenerated scheme levels contents points number ws → All (λ w. word_mask w ≡ contents_mask contents (word_level w)) ws
+    → AreGenerated scheme levels contents points number ws → All (λ w. word_mask w ≡ generated_mask contents (word_level w)) ws
 masks_are scheme levels contents points number ws few whole generated i d h =
     let w = get_or ws i d in
     let t = word_tile scheme w in
     let low : t.level < most_levels scheme = (has_word scheme w (whole.are_words i d h).is_word).within in
-    ap word_mask (generated.masks i d h) ∙ mask_of_word scheme t (contents_mask contents t.level) low (mask_fits contents t.level few)
-    ∙ ap (contents_mask contents) (word_tile_level scheme w)
+    ap word_mask (generated.masks i d h) ∙ mask_of_word scheme t (generated_mask contents t.level) low (mask_fits contents t.level few)
+    ∙ ap (generated_mask contents) (word_tile_level scheme w)
 
 pub masks_below : (scheme : Scheme) (levels contents points number : ℕ) (ws : List ℕ) → contents ≤ most_contents → IsOccupancy scheme levels ws
     → AreGenerated scheme levels contents points number ws → All (λ w. word_mask w < 2 ^ contents) ws

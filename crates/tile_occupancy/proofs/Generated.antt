@@ -21,7 +21,7 @@ use Rattle.tiling_laws.proofs.Ancestors.{ancestor_is_tile, ancestor_of_ancestor}
 use Rattle.availability.specs.Words.{word_key, HasWord}
 use Rattle.availability.proofs.Tiles.{tile_of_word, word_is_word, level_of_word, words_are_ordered}
 use Rattle.tile_occupancy.specs.Occupied.{IsWordBelow, IsOccupancy, HasParent, tiles_of}
-use Rattle.tile_occupancy.specs.Generated.{point, IsGenerated, contents_mask, generated_word, HasLines, AreGenerated}
+use Rattle.tile_occupancy.specs.Generated.{point, IsGenerated, generated_mask, generated_word, HasLines, AreGenerated}
 use Rattle.tile_occupancy.proofs.Keys.{RiseBefore, by_key, rise_upto, rising_from, places, tile_of_place}
 use Rattle.tile_occupancy.proofs.Parents.{parents_from, only_root}
 use Rattle.tile_occupancy.proofs.Lines.{IsMade}
@@ -31,11 +31,11 @@ at_most : (b : Bool) (n : ℕ) → (if b then n else 0) ≤ n
 at_most true n = omega arith
 at_most false n = omega arith
 
-pub mask_below : (c level : ℕ) → contents_mask c level < 2 ^ c
+pub mask_below : (c level : ℕ) → generated_mask c level < 2 ^ c
 mask_below zero level = lit< tt
 mask_below (suc c) level = omega (arith, mask_below c level, at_most (level % suc c == 0) (2 ^ c), pow-suc 2 c)
 
-pub mask_fits : (c level : ℕ) → c ≤ most_contents → contents_mask c level < 2 ^ 8
+pub mask_fits : (c level : ℕ) → c ≤ most_contents → generated_mask c level < 2 ^ 8
 mask_fits c level few = let most : 2 ^ c ≤ 2 ^ 8 = pow-le-pow_right (lit< tt) few in omega (arith, mask_below c level, most)
 
 -- what the code hands over
@@ -78,7 +78,7 @@ line_of : (scheme : Scheme) (levels contents points number k j w : ℕ) (ws : Li
     → w ≡ generated_word scheme contents (ancestor j (point scheme levels number k)) → Line scheme levels contents w (ancestor j (point scheme levels number k))
 line_of scheme levels contents points number k j w ws made inside at =
     let t = ancestor j (point scheme levels number k) in
-    let m = contents_mask contents t.level in
+    let m = generated_mask contents t.level in
     let hm = mask_fits contents t.level made.few in
     let low : t.level < levels = omega (arith, made.some) in
     let fits : t.level < most_levels scheme = omega (arith, low, made.within) in
@@ -97,10 +97,10 @@ below_from_words : (scheme : Scheme) (contents : ℕ) (t u : Tile) → contents 
     → generated_word scheme contents t < generated_word scheme contents u → is_key_below scheme t u ≡ true
 below_from_words scheme contents t u few one other h =
     elim (cases_order t.level u.level) [
-      | inl same ↦ ((words_are_ordered scheme t u one other).by_key (contents_mask contents t.level) (mask_fits contents t.level few)).0
-          (subst (λ l. word scheme t (contents_mask contents t.level) < word scheme u (contents_mask contents l)) (sym same) h)
+      | inl same ↦ ((words_are_ordered scheme t u one other).by_key (generated_mask contents t.level) (mask_fits contents t.level few)).0
+          (subst (λ l. word scheme t (generated_mask contents t.level) < word scheme u (generated_mask contents l)) (sym same) h)
       | inr (inl low) ↦ below_by_level scheme t u low
-      | inr (inr high) ↦ absurd (omega (arith, h, (words_are_ordered scheme u t other one).by_level (contents_mask contents u.level) (contents_mask contents t.level) (mask_fits contents u.level few) high))
+      | inr (inr high) ↦ absurd (omega (arith, h, (words_are_ordered scheme u t other one).by_level (generated_mask contents u.level) (generated_mask contents t.level) (mask_fits contents u.level few) high))
     ]
 
 record At (scheme : Scheme) (levels contents points number w : ℕ) : Type 0 where

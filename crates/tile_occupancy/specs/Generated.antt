@@ -28,12 +28,12 @@ abbrev pub generated_tiles : Scheme → ℕ → ℕ → ℕ → List Tile
 generated_tiles scheme levels points number = filter (is_generated scheme levels points number) (all_tiles scheme (levels - 1))
 
 -- content c stands on each tile whose level is a multiple of c + 1
-abbrev pub contents_mask : ℕ → ℕ → ℕ
-contents_mask zero level = 0
-contents_mask (suc c) level = contents_mask c level + (if level % suc c == 0 then 2 ^ c else 0)
+abbrev pub generated_mask : ℕ → ℕ → ℕ
+generated_mask zero level = 0
+generated_mask (suc c) level = generated_mask c level + (if level % suc c == 0 then 2 ^ c else 0)
 
 abbrev pub generated_word : Scheme → ℕ → Tile → ℕ
-generated_word scheme contents t = word scheme t (contents_mask contents t.level)
+generated_word scheme contents t = word scheme t (generated_mask contents t.level)
 
 -- the words of all generated tiles, in key order
 abbrev pub generated_words : Scheme → ℕ → ℕ → ℕ → ℕ → List ℕ

@@ -4,7 +4,7 @@ ghost use Rattle.std.specs.List.{All};
 ghost use Rattle.implicit_tiling.specs.Code.{word_mask};
 ghost use Rattle.implicit_tiling.specs.Limits.{most_levels, most_contents};
 ghost use Rattle.implicit_tiling.specs.Tile.{IsTile, ancestor as ancestor_of};
-ghost use Rattle.tile_occupancy.specs.Generated.{AreGenerated, HasLines, generated_words, line_words, point as point_of, contents_mask as contents_mask_of};
+ghost use Rattle.tile_occupancy.specs.Generated.{AreGenerated, HasLines, generated_words, line_words, point as point_of, generated_mask};
 
 use crate::occupancy::Occupancy;
 use availability::word_of;
@@ -86,7 +86,7 @@ fn append_line(
 {
     for up in 0..tile.level + 1 {
         let above = ancestor(tile, up);
-        out.push(word_of(scheme, &above, contents_mask(contents, above.level)))?;
+        out.push(word_of(scheme, &above, level_mask(contents, above.level)))?;
     }
     Ok(())
 }
@@ -132,9 +132,9 @@ fn spread(level: u32, number: u64) -> u32
 }
 
 // The mask of the contents that stand on the tiles of a level.
-fn contents_mask(contents: u32, level: u32) -> u8
+fn level_mask(contents: u32, level: u32) -> u8
     requires { contents ≤ most_contents }
-    ensures { result ≡ contents_mask_of contents level }
+    ensures { result ≡ generated_mask contents level }
 {
     let mut mask = 0u32;
     for content in 0..contents {

@@ -1,5 +1,5 @@
-//! The tiles of a tileset that is made: a list of words that is whole, or refused by its first fault, and lists that are
-//! generated.
+//! The tiles that a tileset is made of: `Occupancy` takes a list of words in key order in which each tile's parent stands,
+//! or refuses it by its first fault; `generate` makes such lists for tests and times.
 #![tactic(auto)]
 
 mod checks;

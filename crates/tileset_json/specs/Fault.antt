@@ -1,16 +1,16 @@
--- The numbers of the faults of `tileset.json` that its bytes show (this project's own).
+-- For proofs and inner functions: the numbers of the faults of `tileset.json` that its bytes show (this project's own).
 use Rattle.std.specs.Prelude.{ℕ}
 use Rattle.tileset_json.specs.declared.fault.TilesetFault.{TilesetFault}
 use Rattle.tileset_json.specs.declared.fault.TilesetFault.TheVariants.{BadJson, NotObject, NoImplicit, BadScheme, BadSubtreeLevels, BadAvailableLevels, BadSubtreeTemplate, BothContents, BadContent, TooManyContents}
 
-abbrev pub number_of : TilesetFault → ℕ
-number_of BadJson = 3
-number_of NotObject = 4
-number_of NoImplicit = 5
-number_of BadScheme = 6
-number_of BadSubtreeLevels = 7
-number_of BadAvailableLevels = 8
-number_of BadSubtreeTemplate = 9
-number_of BothContents = 10
-number_of BadContent = 11
-number_of TooManyContents = 12
+abbrev pub tileset_fault_number : TilesetFault → ℕ
+tileset_fault_number BadJson = 3
+tileset_fault_number NotObject = 4
+tileset_fault_number NoImplicit = 5
+tileset_fault_number BadScheme = 6
+tileset_fault_number BadSubtreeLevels = 7
+tileset_fault_number BadAvailableLevels = 8
+tileset_fault_number BadSubtreeTemplate = 9
+tileset_fault_number BothContents = 10
+tileset_fault_number BadContent = 11
+tileset_fault_number TooManyContents = 12

@@ -1,6 +1,6 @@
 // What can be wrong with `tileset.json`.
 ghost use Rattle.std.specs.Prelude.{◌≡◌};
-ghost use Rattle.tileset_json.specs.Fault.{number_of};
+ghost use Rattle.tileset_json.specs.Fault.{tileset_fault_number};
 
 use std::alloc::AllocError;
 
@@ -33,7 +33,7 @@ pub enum TilesetFault {
 impl TilesetFault {
     /// The number under which the fault is reported.
     pub fn number(self) -> u64
-        ensures { result ≡ number_of self }
+        ensures { result ≡ tileset_fault_number self }
     {
         match self {
             TilesetFault::BadJson => 3,
@@ -60,10 +60,10 @@ pub enum LayoutFault {
 }
 
 impl From<TilesetFault> for LayoutFault {
-    ghost use Rattle.tileset_json.specs.Fault.{number_of};
+    ghost use Rattle.tileset_json.specs.Fault.{tileset_fault_number};
     ghost use Rattle.tileset_json.specs.declared.fault.LayoutFault.TheVariants.{Number};
 
-    ghost from_gives = { λ fault r. r ≡ Number (number_of fault) };
+    ghost from_gives = { λ fault r. r ≡ Number (tileset_fault_number fault) };
 
     fn from(fault: TilesetFault) -> LayoutFault {
         LayoutFault::Number(fault.number())

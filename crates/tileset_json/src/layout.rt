@@ -4,7 +4,7 @@ ghost use Rattle.serde_json.specs.Find.{get};
 ghost use Rattle.serde_json.specs.View.{view};
 ghost use Rattle.implicit_tileset.specs.Json.{number_at as number_in, text_at as text_in};
 ghost use Rattle.implicit_tileset.specs.Tileset.{layout_of, layout_of_value, template_of, scheme_named, from_one_to};
-ghost use Rattle.tileset_json.specs.Reading.{Answers};
+ghost use Rattle.tileset_json.specs.Reading.{ReadsLayout};
 
 use crate::contents::{read_contents, read_template};
 use crate::fault::{LayoutFault, TilesetFault};
@@ -47,7 +47,7 @@ impl Layout {
     /// The layout that the bytes of `tileset.json` state. `Number` has the first fault of the table that holds,
     /// from 3 on. A member of one name that stands twice counts as `serde_json` keeps it, so the last does.
     pub fn read(alloc: Global, bytes: &[u8]) -> Result<Layout, LayoutFault>
-        ensures { Answers (layout_of bytes.now) result }
+        ensures { ReadsLayout (layout_of bytes.now) result }
     {
         match read_value(alloc, bytes) {
             Ok(value) => read_layout(alloc, &value),
@@ -59,7 +59,7 @@ impl Layout {
 
 // The layout that a value states: one step for each row of the table, in its order.
 fn read_layout(alloc: Global, value: &Value) -> Result<Layout, LayoutFault>
-    ensures { Answers (layout_of_value (view value.now)) result }
+    ensures { ReadsLayout (layout_of_value (view value.now)) result }
 {
     let tile = object_at(value, "root").ok_or(TilesetFault::NotObject)?;
     let implicit = object_at(tile, "implicitTiling").ok_or(TilesetFault::NoImplicit)?;

@@ -1,5 +1,5 @@
-//! Tilesets that are generated for tests and times: from a recipe of a few numbers their files are put into a keeper, or made
-//! in memory and surveyed.
+//! From a few numbers to a tileset, for tests and times: a recipe names the tiles to generate, `make` puts all files of their
+//! tileset through `tile_builder`, `tileset.json` as the last, and `survey` makes them in memory and walks them.
 #![tactic(auto)]
 
 mod found;

@@ -4,7 +4,8 @@ use Rattle.serde_json.specs.Data.{Data, string, object, Members, no_members, put
 use Rattle.serde_json.specs.View.{items_of}
 use Rattle.serde_json.specs.Written.{has_float, items_have_float, members_have_float}
 use Rattle.implicit_tiling.specs.Scene.{Layout}
-use Rattle.tileset_write.specs.LayoutText.{whole_number, uri_value, box_value, with_contents, root_value, layout_value}
+use Rattle.implicit_tileset.specs.Json.{whole_number}
+use Rattle.tileset_write.specs.LayoutText.{uri_value, box_value, with_contents, root_value, layout_value}
 use Rattle.tileset_write.specs.LayoutMembers.{put_contents}
 use Rattle.tileset_write.proofs.LayoutReads.{root_in_order}
 

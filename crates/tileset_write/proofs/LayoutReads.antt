@@ -20,8 +20,8 @@ use Rattle.serde_json.proofs.Texts.{print-outline}
 use Rattle.serde_json.proofs.Numbers.{number_of-decimal}
 use Rattle.implicit_tiling.specs.declared.Scheme.{Scheme}
 use Rattle.implicit_tiling.specs.declared.Scheme.TheVariants.{Quad, Oct}
-use Rattle.implicit_tileset.specs.Json.{json_of}
-use Rattle.tileset_write.specs.LayoutText.{IsTemplateText, scheme_name, whole_number, uri_value, asset_value, box_value, implicit_value, with_contents, root_value, tileset_value}
+use Rattle.implicit_tileset.specs.Json.{json_of, whole_number}
+use Rattle.tileset_write.specs.LayoutText.{IsTemplateText, scheme_name, uri_value, asset_value, box_value, implicit_value, with_contents, root_value, tileset_value}
 use Rattle.tileset_write.specs.LayoutMembers.{put_contents}
 
 -- a value that nests at most `deep` times, whose text reads back

@@ -12,7 +12,8 @@ use Rattle.serde_json.specs.Written.{compact_text, items_text, members_text, com
 use Rattle.implicit_tiling.specs.declared.Scheme.{Scheme}
 use Rattle.implicit_tiling.specs.declared.Scheme.TheVariants.{Quad, Oct}
 use Rattle.implicit_tiling.specs.Limits.{most_levels, most_subtree_levels}
-use Rattle.tileset_write.specs.LayoutText.{IsTemplateText, LayoutTextsAreShort, scheme_name, whole_number, uri_value, asset_value, box_value, implicit_value, with_contents, root_value}
+use Rattle.implicit_tileset.specs.Json.{whole_number}
+use Rattle.tileset_write.specs.LayoutText.{IsTemplateText, LayoutTextsAreShort, scheme_name, uri_value, asset_value, box_value, implicit_value, with_contents, root_value}
 
 -- ---- a text in quotes
 

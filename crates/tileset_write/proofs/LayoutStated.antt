@@ -6,6 +6,7 @@ use Rattle.std.proofs.lemmas.Bool.{le-ltb, le-leb}
 use Rattle.serde_json.specs.Data.{Data}
 use Rattle.serde_json.specs.Find.{get}
 use Rattle.serde_json.specs.View.{items_of}
+use Rattle.implicit_tiling.proofs.Tables.{refuse-past}
 use Rattle.implicit_tiling.specs.declared.Scheme.{Scheme}
 use Rattle.implicit_tiling.specs.declared.Scheme.TheVariants.{Quad, Oct}
 use Rattle.implicit_tiling.specs.Limits.{most_levels, most_subtree_levels, most_contents}
@@ -84,9 +85,6 @@ from_implicit tile implicit = need 6 (option_and_then scheme_named (text_at (cod
 given : {A B : Type 0} (n : ℕ) (o : Option A) (a : A) (rest : A → Result B ℕ) → o ≡ Some a → need n o rest ≡ rest a
 given n o a rest e = ap (λ p. need n p rest) e
 
-passed : {A : Type 0} (n : ℕ) (test : Bool) (rest : Result A ℕ) → test ≡ false → refuse n test rest ≡ rest
-passed n test rest e = ap (λ b. refuse n b rest) e
-
 value_stated : (layout : Layout) → IsLayout layout → layout_of_value (layout_value layout) ≡ Ok layout
 value_stated layout h =
     let scheme = layout.scheme in
@@ -99,9 +97,9 @@ value_stated layout h =
     ∙ given 8 (from_one_to (most_levels scheme) (Some layout.levels)) layout.levels (from_subtree tile implicit scheme layout.subtree_levels)
     (some_number (most_levels scheme) layout.levels h.limits.some_levels h.limits.few_levels)
     ∙ given 9 (template_of (uri_value layout.subtree)) layout.subtree (from_contents tile scheme layout.subtree_levels layout.levels) (template_stated layout.subtree h.subtree)
-    ∙ passed 10 (has_member (codes "content") tile && has_member (codes "contents") tile) _ (not_both layout.contents implicit)
+    ∙ refuse-past 10 (has_member (codes "content") tile && has_member (codes "contents") tile) _ (not_both layout.contents implicit)
     ∙ given 11 (contents_of tile) layout.contents (λ contents. refuse 12 (nat_lt most_contents (length contents)) (Ok (laid scheme layout.subtree_levels layout.levels layout.subtree contents))) (contents_stated layout.contents implicit h.contents)
-    ∙ passed 12 (nat_lt most_contents (length layout.contents)) _ (le-ltb most_contents (length layout.contents) h.limits.few_contents)
+    ∙ refuse-past 12 (nat_lt most_contents (length layout.contents)) _ (le-ltb most_contents (length layout.contents) h.limits.few_contents)
 
 pub layout_texts_read_back : LayoutTextsReadBack
 layout_texts_read_back layout h =

@@ -1,8 +1,9 @@
--- The members of a tileset's root and its box by their parts (this project's own).
+-- For proofs and inner functions: the members of a tileset's root and its box by their parts (this project's own).
 use Rattle.std.specs.Prelude.{ℕ, List, [], ◌∷◌, codes, map}
 use Rattle.serde_json.specs.Data.{Data, array, Members, put}
 use Rattle.serde_json.specs.View.{items_of}
-use Rattle.tileset_write.specs.LayoutText.{whole_number, uri_value}
+use Rattle.implicit_tileset.specs.Json.{whole_number}
+use Rattle.tileset_write.specs.LayoutText.{uri_value}
 
 -- the members, with those of the contents
 abbrev pub put_contents : List (List ℕ) → Members → Members

@@ -2,22 +2,20 @@
 -- implicit tiling: implicit root tile, subtrees; the choice is this project's own).
 use Rattle.std.specs.Prelude.{ℕ, ◌≡◌, ◌≤◌, List, [], ◌∷◌, map, length, codes, IsTrue, IsUtf8, Ok}
 use Rattle.std.specs.List.{All}
-use Rattle.serde_json.specs.Data.{Data, number, unsigned, string, array, object, Members, no_members, member}
+use Rattle.serde_json.specs.Data.{Data, string, array, object, Members, no_members, member}
 use Rattle.serde_json.specs.View.{items_of}
 use Rattle.serde_json.specs.Written.{compact_text}
 use Rattle.implicit_tiling.specs.declared.Scheme.{Scheme}
 use Rattle.implicit_tiling.specs.declared.Scheme.TheVariants.{Quad, Oct}
 use Rattle.implicit_tiling.specs.Limits.{most_file_bytes}
 use Rattle.implicit_tiling.specs.Scene.{Layout}
+use Rattle.implicit_tileset.specs.Json.{whole_number}
 use Rattle.implicit_tileset.specs.Tileset.{is_template, layout_of}
 use Rattle.tileset_json.specs.Limits.{IsWithinLimits}
 
 abbrev pub scheme_name : Scheme → List ℕ
 scheme_name Quad = codes "QUADTREE"
 scheme_name Oct = codes "OCTREE"
-
-abbrev pub whole_number : ℕ → Data
-whole_number n = number (unsigned n)
 
 -- an object whose `uri` is a template
 abbrev pub uri_value : List ℕ → Data

@@ -5,7 +5,7 @@ use Rattle.frame_pool.specs.declared.frame.FrameState.TheVariants.{Ready, Loadin
 use Rattle.frame_pool.specs.declared.frame.Asked.TheVariants.{Hit, Granted, Loading as Waiting, Busy}
 use Rattle.frame_pool.specs.States.{pins_of}
 use Rattle.frame_pool.specs.Frames.{Frames, EachFrame, HasKeysOnce, KeepsPinned}
-use Rattle.frame_pool.specs.Moves.{IsAnswer, MayGoOn, pinned, after_ask, asked_last}
+use Rattle.frame_pool.specs.Moves.{IsAskAnswer, MayGoOn, pinned, after_ask, asked_last}
 use Rattle.frame_pool.specs.Finding.{AreNoted, HasRoom, NoneEmptyBelow, IsKept}
 use Rattle.frame_pool.proofs.Asking.{one_answer}
 use Rattle.frame_pool.proofs.Holders.{ready-at, loading-at, none-has}
@@ -38,7 +38,7 @@ invariant_of-self g c =
 pub returns-in-Ready-clause-answer : goal.returns-in-Ready-clause-answer
 returns-in-Ready-clause-answer g c =
     let ready = ready-at g.K.PartialEq.eq c.args.key c.self.inside.census.items c.deref.result.now c.in-Some.frame c.index.result.now c.in-Ready.own c.in-Ready.pins c.in-Some.ensures c.deref.ensures.value c.index.ensures c.in-Ready.is in
-    subst (λ (p : Frames g.row.K.Denot g.row.V.Denot). IsAnswer g.K.PartialEq.eq c.args.key p (Hit c.in-Some.frame)) c.self.view_is (c.in-Ready.own, c.in-Ready.pins, ready.0, ready.1)
+    subst (λ (p : Frames g.row.K.Denot g.row.V.Denot). IsAskAnswer g.K.PartialEq.eq c.args.key p (Hit c.in-Some.frame)) c.self.view_is (c.in-Ready.own, c.in-Ready.pins, ready.0, ready.1)
 
 pub returns-in-Ready-clause-only : goal.returns-in-Ready-clause-only
 returns-in-Ready-clause-only g c other h = one_answer g.K.PartialEq.eq c.args.key c.args.self.now (subst (λ (p : Frames g.row.K.Denot g.row.V.Denot). HasKeysOnce g.K.PartialEq.eq p.census) c.self.view_is c.self.invariant.frames.keys) other (Hit c.in-Some.frame) h (returns-in-Ready-clause-answer g c)
@@ -54,7 +54,7 @@ returns-in-Ready-clause-after g c =
 pub returns-in_default-clause-answer : goal.returns-in_default-clause-answer
 returns-in_default-clause-answer g c =
     let loading = loading-at g.K.PartialEq.eq c.args.key c.self.inside.census.items c.deref.result.now c.in-Some.frame c.index.result.now c.in-Some.ensures c.deref.ensures.value c.index.ensures c.in_default.not-Ready in
-    let answer = subst (λ (p : Frames g.row.K.Denot g.row.V.Denot). IsAnswer g.K.PartialEq.eq c.args.key p Waiting) c.self.view_is (c.in-Some.frame, loading.0, loading.1, loading.2) in
+    let answer = subst (λ (p : Frames g.row.K.Denot g.row.V.Denot). IsAskAnswer g.K.PartialEq.eq c.args.key p Waiting) c.self.view_is (c.in-Some.frame, loading.0, loading.1, loading.2) in
     answer
 
 pub returns-in_default-clause-only : goal.returns-in_default-clause-only
@@ -97,7 +97,7 @@ invariant_of-self-in-Some-victim g c =
 
 pub returns-in-Some-victim-clause-answer : goal.returns-in-Some-victim-clause-answer
 returns-in-Some-victim-clause-answer g c =
-    subst (λ (p : Frames g.row.K.Denot g.row.V.Denot). IsAnswer g.K.PartialEq.eq c.args.key p (Granted c.in-Some-victim.frame)) c.self.view_is
+    subst (λ (p : Frames g.row.K.Denot g.row.V.Denot). IsAskAnswer g.K.PartialEq.eq c.args.key p (Granted c.in-Some-victim.frame)) c.self.view_is
     (none-has g.K.PartialEq.eq c.args.key c.self.inside.census.items c.deref.result.now c.in-None.ensures c.deref.ensures.value, victim-seen c.self.inside.census.items c.deref-in-None.result.now c.self.inside.order c.self.inside.order (Some c.in-Some-victim.frame) c.in-Some-victim.ensures.victim c.deref-in-None.ensures.value refl)
 
 pub returns-in-Some-victim-clause-only : goal.returns-in-Some-victim-clause-only
@@ -105,7 +105,7 @@ returns-in-Some-victim-clause-only g c other h = one_answer g.K.PartialEq.eq c.a
 
 pub returns-in-None-victim-clause-answer : goal.returns-in-None-victim-clause-answer
 returns-in-None-victim-clause-answer g c =
-    subst (λ (p : Frames g.row.K.Denot g.row.V.Denot). IsAnswer g.K.PartialEq.eq c.args.key p Busy) c.self.view_is
+    subst (λ (p : Frames g.row.K.Denot g.row.V.Denot). IsAskAnswer g.K.PartialEq.eq c.args.key p Busy) c.self.view_is
     (none-has g.K.PartialEq.eq c.args.key c.self.inside.census.items c.deref.result.now c.in-None.ensures c.deref.ensures.value, all_pinned c.self.inside.census.items c.self.inside.order c.self.invariant.frames.numbers (victim-seen c.self.inside.census.items c.deref-in-None.result.now c.self.inside.order c.self.inside.order None c.in-None-victim.ensures.victim c.deref-in-None.ensures.value refl))
 
 pub returns-in-None-victim-clause-only : goal.returns-in-None-victim-clause-only

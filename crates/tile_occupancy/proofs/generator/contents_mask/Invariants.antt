@@ -1,6 +1,0 @@
-use Rattle.std.proofs.Common.{◌≡◌, ◌<◌, ◌^◌}
-use Rattle.tile_occupancy.specs.Generated.{contents_mask}
-use Rattle.tile_occupancy.proofs.generator.contents_mask.Given as goal
-
-abbrev pub invariant-loop-content : goal.invariant-loop-content
-invariant-loop-content l = (l.mask ≡ contents_mask l.content l.level) × (l.mask < 2 ^ l.content)
