@@ -2,6 +2,9 @@
 """Checks that the documents name what is there: each definition of docs/definitions.md stands in the file beside it, and each
 name in docs/proofs.md is that of a crate, a module, a type, a function or a clause.
 
+Checks too that docs/definitions.md is whole. A page of definitions is on it, or says in its first line that it is for proofs and
+inner functions. No page on it, and no clause of a function that docs/proofs.md names, cites a page of the latter kind.
+
 Usage: documents.py"""
 import glob
 import itertools
@@ -12,6 +15,10 @@ import sys
 TOP = os.path.dirname(os.path.dirname(os.path.abspath(__file__)))
 ITEM = r"\b(?:fn|mod|struct|enum|trait|ensures|requires)\s+(\w+)|\b(?:ghost|const)\s+(\w+)"
 QUOTED = re.compile(r"`([^`]*)`")
+INNER = "-- For proofs and inner functions: "
+CITED = re.compile(r"use Rattle\.(\w+)\.specs\.(\w+)\.\{([^}]*)\}")
+FUNCTION = re.compile(r"(?:pub(?:\(crate\))? )?(?:const |unsafe )*fn (\w+)")
+WORD = re.compile(r"[A-Za-z_][\w'-]*")
 
 
 def read(path):
@@ -60,7 +67,79 @@ def unknown_names():
                 yield f"proofs.md: {name} is nothing in the crates"
 
 
-problems = [*missing_definitions(), *unknown_names()]
+def pages():
+    """The pages of definitions, by crate and name, with their text."""
+    for path in glob.glob(os.path.join(TOP, "crates", "*", "specs", "*.antt")):
+        crate, _, name = os.path.relpath(path, os.path.join(TOP, "crates"))[: -len(".antt")].split(os.sep)
+        if name != "Lib":
+            yield (crate, name), read(path)
+
+
+def cited_pages(text, words=None):
+    """The pages that a text imports names from: any name, or one of the words."""
+    for crate, page, names in CITED.findall(text):
+        if words is None or any(name.split(" as ")[-1].strip() in words for name in names.split(",")):
+            yield crate, page
+
+
+def listed_pages():
+    for cells in rows("definitions.md"):
+        for quoted in QUOTED.findall(cells[1]):
+            for path in expanded(quoted):
+                found = re.fullmatch(r"(\w+)/specs/(\w+)\.antt", path)
+                if found:
+                    yield found.groups()
+
+
+def claimed_functions():
+    """The names of functions in docs/proofs.md, by the crate that stands last before each."""
+    crates = set(os.listdir(os.path.join(TOP, "crates")))
+    for cells in rows("proofs.md"):
+        crate = None
+        for part in (part for name in QUOTED.findall(cells[-1]) for part in name.split("::")):
+            if part in crates:
+                crate = part
+            else:
+                yield crate, part
+
+
+def contracts(text):
+    """Each function of a source file, with the words of its contract."""
+    name, words = None, []
+    for line in (line.strip() for line in text.splitlines()):
+        found = FUNCTION.match(line)
+        if found:
+            name, words = found.group(1), []
+        if name and not line.startswith("//"):
+            words += WORD.findall(line)
+            ends_here = line.endswith((";", "{")) and not line.startswith(("ensures", "requires"))
+            if ends_here:
+                yield name, set(words)
+                name = None
+
+
+def incomplete_definitions():
+    all_pages = dict(pages())
+    listed = set(listed_pages())
+    inner = {page for page, text in all_pages.items() if text.startswith(INNER)}
+    for page in sorted(set(all_pages) - listed - inner):
+        yield f"definitions.md: {'/'.join(page)} is neither on it nor a page for proofs and inner functions"
+    for page in sorted(listed & inner):
+        yield f"definitions.md: {'/'.join(page)} says that it is for proofs and inner functions"
+    for page in sorted(listed & set(all_pages)):
+        for cited in sorted(set(cited_pages(all_pages[page])) & inner):
+            yield f"definitions.md: {'/'.join(page)} cites {'/'.join(cited)}, which is for proofs and inner functions"
+    claimed = set(claimed_functions())
+    for path in glob.glob(os.path.join(TOP, "crates", "*", "src", "**", "*.rt"), recursive=True):
+        crate = os.path.relpath(path, os.path.join(TOP, "crates")).split(os.sep)[0]
+        text = read(path)
+        for function, words in contracts(text):
+            if (crate, function) in claimed or (None, function) in claimed:
+                for cited in sorted(set(cited_pages(text, words)) & inner):
+                    yield f"proofs.md: {crate}, {function} cites {'/'.join(cited)}, which is for proofs and inner functions"
+
+
+problems = [*missing_definitions(), *unknown_names(), *incomplete_definitions()]
 for problem in problems:
     print(f"FAILED {problem}")
 print(f"documents: {len(problems)} names that are not there")
