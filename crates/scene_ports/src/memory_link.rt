@@ -54,9 +54,7 @@ impl Outlet for MemoryLink {
 
     ghost faults = { λ s. s.faults };
 
-    ghost left_aside = { λ s. Some (drop s.at s.bytes.items) };
-
-    ghost taken_aside = { λ s. Some s.taken };
+    ghost inlet_aside = { λ s. Some (record { left = Some (drop s.at s.bytes.items); taken = s.taken }) };
 
     fn give(&mut self, bytes: &[u8]) -> Give {
         self.calls = self.calls.saturating_add(1);

@@ -36,8 +36,7 @@ pub fn give_all<O: Outlet>(out: &mut O, bytes: &[u8]) -> Result<(), GiveFault>
     ensures front { GivesFront (O.given out.old) (O.given out.new) bytes.now }
     ensures failed { result ≡ Err GiveFault.WriteFault → Rose (O.faults out.old) (O.faults out.new) }
     ensures later { O.faults out.old ≤ O.faults out.new }
-    ensures left_aside { O.left_aside out.new ≡ O.left_aside out.old }
-    ensures taken_aside { O.taken_aside out.new ≡ O.taken_aside out.old }
+    ensures aside { O.inlet_aside out.new ≡ O.inlet_aside out.old }
 {
     let mut rest = bytes;
     while !rest.is_empty() {
@@ -58,8 +57,7 @@ pub fn give_rest<O: Outlet>(out: &mut O, piece: &mut String) -> Result<(), GiveF
     ensures front { GivesFront (O.given out.old) (O.given out.new) (string_bytes piece.old) }
     ensures failed { result ≡ Err GiveFault.WriteFault → Rose (O.faults out.old) (O.faults out.new) }
     ensures later { O.faults out.old ≤ O.faults out.new }
-    ensures left_aside { O.left_aside out.new ≡ O.left_aside out.old }
-    ensures taken_aside { O.taken_aside out.new ≡ O.taken_aside out.old }
+    ensures aside { O.inlet_aside out.new ≡ O.inlet_aside out.old }
 {
     give_all(out, piece.as_bytes())?;
     piece.clear();
@@ -80,8 +78,7 @@ pub fn give_when_full<O: Outlet>(out: &mut O, piece: &mut String) -> Result<(), 
     ensures front { GivesFront (O.given out.old) (O.given out.new) (string_bytes piece.old) }
     ensures failed { result ≡ Err GiveFault.WriteFault → Rose (O.faults out.old) (O.faults out.new) }
     ensures later { O.faults out.old ≤ O.faults out.new }
-    ensures left_aside { O.left_aside out.new ≡ O.left_aside out.old }
-    ensures taken_aside { O.taken_aside out.new ≡ O.taken_aside out.old }
+    ensures aside { O.inlet_aside out.new ≡ O.inlet_aside out.old }
 {
     if piece.len() < FULL {
         return Ok(());

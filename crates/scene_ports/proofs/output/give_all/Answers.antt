@@ -6,6 +6,5 @@ pub loop-rest-preserved : goal.loop-rest-preserved
 loop-rest-preserved g c = record {
   under_way = all_but_rest _ _ _ _ _ c.in-Took.n c.loop-rest.invariant.under_way c.in-Took.ensures.given;
   later = omega (arith, c.give.ensures.later);
-  left_aside = c.give.ensures.left_aside ∙ c.loop-rest.invariant.left_aside;
-  taken_aside = c.give.ensures.taken_aside ∙ c.loop-rest.invariant.taken_aside;
+  aside = c.give.ensures.aside ∙ c.loop-rest.invariant.aside;
 }
