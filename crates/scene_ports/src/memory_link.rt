@@ -28,6 +28,9 @@ impl MemoryLink {
         ensures taken { ⟦<MemoryLink as Inlet>⟧.taken result ≡ 0 }
         ensures given { ⟦<MemoryLink as Outlet>⟧.given result ≡ Some [] }
         ensures faults { ⟦<MemoryLink as Inlet>⟧.faults result ≡ 0 }
+        ensures give_faults { ⟦<MemoryLink as Outlet>⟧.faults result ≡ 0 }
+        ensures given_aside { ⟦<MemoryLink as Inlet>⟧.given_aside result ≡ Some [] }
+        ensures inlet_aside { ⟦<MemoryLink as Outlet>⟧.inlet_aside result ≡ Some (record { left = Some bytes.items; taken = 0 }) }
     {
         MemoryLink {
             bytes,

@@ -1,5 +1,5 @@
 // Giving texts to an outlet.
-ghost use Rattle.std.specs.Prelude.{◌≡◌, ◌≤◌, ◌<◌, [], IsOk, OnOk, OnErr, string_bytes, string_len};
+ghost use Rattle.std.specs.Prelude.{◌≡◌, ◌≢◌, ◌≤◌, ◌<◌, [], IsOk, OnOk, OnErr, string_bytes, string_len};
 ghost use Rattle.std.specs.Io.KnownBytes.{Appends};
 ghost use Rattle.scene_ports.specs.Counts.{Rose};
 ghost use Rattle.scene_ports.specs.Output.{GivesFront, GivesAllBut};
@@ -35,6 +35,7 @@ pub fn give_all<O: Outlet>(out: &mut O, bytes: &[u8]) -> Result<(), GiveFault>
     ensures given { OnOk result (Appends (O.given out.old) (O.given out.new) bytes.now) }
     ensures front { GivesFront (O.given out.old) (O.given out.new) bytes.now }
     ensures failed { result ≡ Err GiveFault.WriteFault → Rose (O.faults out.old) (O.faults out.new) }
+    ensures sure { result ≢ Err GiveFault.WriteFault → O.faults out.new ≡ O.faults out.old }
     ensures later { O.faults out.old ≤ O.faults out.new }
     ensures aside { O.inlet_aside out.new ≡ O.inlet_aside out.old }
 {
@@ -56,6 +57,7 @@ pub fn give_rest<O: Outlet>(out: &mut O, piece: &mut String) -> Result<(), GiveF
     ensures held { OnErr result (string_bytes piece.new ≡ string_bytes piece.old) }
     ensures front { GivesFront (O.given out.old) (O.given out.new) (string_bytes piece.old) }
     ensures failed { result ≡ Err GiveFault.WriteFault → Rose (O.faults out.old) (O.faults out.new) }
+    ensures sure { result ≢ Err GiveFault.WriteFault → O.faults out.new ≡ O.faults out.old }
     ensures later { O.faults out.old ≤ O.faults out.new }
     ensures aside { O.inlet_aside out.new ≡ O.inlet_aside out.old }
 {
@@ -77,6 +79,7 @@ pub fn give_when_full<O: Outlet>(out: &mut O, piece: &mut String) -> Result<(), 
     ensures held { OnErr result (string_bytes piece.new ≡ string_bytes piece.old) }
     ensures front { GivesFront (O.given out.old) (O.given out.new) (string_bytes piece.old) }
     ensures failed { result ≡ Err GiveFault.WriteFault → Rose (O.faults out.old) (O.faults out.new) }
+    ensures sure { result ≢ Err GiveFault.WriteFault → O.faults out.new ≡ O.faults out.old }
     ensures later { O.faults out.old ≤ O.faults out.new }
     ensures aside { O.inlet_aside out.new ≡ O.inlet_aside out.old }
 {
