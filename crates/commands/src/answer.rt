@@ -31,8 +31,7 @@ pub(crate) fn answer_tiles<S: FileSource, O: Outlet>(
     ensures nothing { IsBeforeWriting result → Keeps (O.given out.old) (O.given out.new) }
     ensures read_fault { result ≡ Status.ReadFault → Rose (S.faults files.old) (S.faults files.new) }
     ensures write_fault { result ≡ Status.WriteFault → Rose (O.faults out.old) (O.faults out.new) }
-    ensures left_aside { O.left_aside out.new ≡ O.left_aside out.old }
-    ensures taken_aside { O.taken_aside out.new ≡ O.taken_aside out.old }
+    ensures aside { O.inlet_aside out.new ≡ O.inlet_aside out.old }
 {
     match fetch_layout(alloc, files) {
         Ok(layout) => answer_line(alloc, &layout, line, files, out),
@@ -52,8 +51,7 @@ fn answer_line<S: FileSource, O: Outlet>(
     ensures nothing { IsBeforeWriting result → Keeps (O.given out.old) (O.given out.new) }
     ensures read_fault { result ≡ Status.ReadFault → Rose (S.faults files.old) (S.faults files.new) }
     ensures write_fault { result ≡ Status.WriteFault → Rose (O.faults out.old) (O.faults out.new) }
-    ensures left_aside { O.left_aside out.new ≡ O.left_aside out.old }
-    ensures taken_aside { O.taken_aside out.new ≡ O.taken_aside out.old }
+    ensures aside { O.inlet_aside out.new ≡ O.inlet_aside out.old }
 {
     match parse_line(layout, line.as_bytes()) {
         Ok(plan) => answer_plan(alloc, layout, &plan, files, out),
@@ -74,8 +72,7 @@ fn answer_plan<S: FileSource, O: Outlet>(
     ensures nothing { IsBeforeWriting result → Keeps (O.given out.old) (O.given out.new) }
     ensures read_fault { result ≡ Status.ReadFault → Rose (S.faults files.old) (S.faults files.new) }
     ensures write_fault { result ≡ Status.WriteFault → Rose (O.faults out.old) (O.faults out.new) }
-    ensures left_aside { O.left_aside out.new ≡ O.left_aside out.old }
-    ensures taken_aside { O.taken_aside out.new ≡ O.taken_aside out.old }
+    ensures aside { O.inlet_aside out.new ≡ O.inlet_aside out.old }
 {
     // The scheme is read so that the limits of the layout are known.
     let _scheme = layout.scheme;
@@ -108,8 +105,7 @@ fn refuse<O: Outlet>(alloc: Global, number: u64, out: &mut O) -> Status
     ensures nothing { IsBeforeWriting result → Keeps (O.given out.old) (O.given out.new) }
     ensures no_read { result ≢ Status.ReadFault }
     ensures write_fault { result ≡ Status.WriteFault → Rose (O.faults out.old) (O.faults out.new) }
-    ensures left_aside { O.left_aside out.new ≡ O.left_aside out.old }
-    ensures taken_aside { O.taken_aside out.new ≡ O.taken_aside out.old }
+    ensures aside { O.inlet_aside out.new ≡ O.inlet_aside out.old }
 {
     match write_refusal(alloc, number, out) {
         Ok(()) => Status::Usage,

@@ -23,8 +23,7 @@ pub(crate) fn answer_check<S: FileSource, O: Outlet>(
     ensures nothing { IsBeforeWriting result → Keeps (O.given out.old) (O.given out.new) }
     ensures read_fault { result ≡ Status.ReadFault → Rose (S.faults files.old) (S.faults files.new) }
     ensures write_fault { result ≡ Status.WriteFault → Rose (O.faults out.old) (O.faults out.new) }
-    ensures left_aside { O.left_aside out.new ≡ O.left_aside out.old }
-    ensures taken_aside { O.taken_aside out.new ≡ O.taken_aside out.old }
+    ensures aside { O.inlet_aside out.new ≡ O.inlet_aside out.old }
 {
     match fetch_layout(alloc, files) {
         Ok(layout) => check_layout(alloc, &layout, files, out),
@@ -43,8 +42,7 @@ fn check_layout<S: FileSource, O: Outlet>(
     ensures nothing { IsBeforeWriting result → Keeps (O.given out.old) (O.given out.new) }
     ensures read_fault { result ≡ Status.ReadFault → Rose (S.faults files.old) (S.faults files.new) }
     ensures write_fault { result ≡ Status.WriteFault → Rose (O.faults out.old) (O.faults out.new) }
-    ensures left_aside { O.left_aside out.new ≡ O.left_aside out.old }
-    ensures taken_aside { O.taken_aside out.new ≡ O.taken_aside out.old }
+    ensures aside { O.inlet_aside out.new ≡ O.inlet_aside out.old }
 {
     let scheme = layout.scheme;
     let mut found = Vec::new(alloc);

@@ -24,8 +24,7 @@ pub(crate) fn answer_make<K: FileKeeper, O: Outlet>(
     ensures leaves { IfTold (K.kept keep.old) (K.kept keep.new) (λ before now. Leaves recipe.now before now result) }
     ensures first { Keeps (O.given out.old) (O.given out.new) ⊎ IfTold (K.kept keep.old) (K.kept keep.new) (IsMade recipe.now) }
     ensures write_fault { result ≡ Status.WriteFault → Rose (O.faults out.old) (O.faults out.new) ⊎ Rose (K.faults keep.old) (K.faults keep.new) }
-    ensures left_aside { O.left_aside out.new ≡ O.left_aside out.old }
-    ensures taken_aside { O.taken_aside out.new ≡ O.taken_aside out.old }
+    ensures aside { O.inlet_aside out.new ≡ O.inlet_aside out.old }
 {
     let built = match make(alloc, recipe, keep) {
         Ok(built) => built,

@@ -53,8 +53,7 @@ pub fn plain<S: FileSource, K: FileKeeper, I: Inlet, O: Outlet>(
 
     // The inlet is not touched, and neither is what the outlet is beside one.
     ensures left { input.new ≡ input.old }
-    ensures left_aside { O.left_aside out.new ≡ O.left_aside out.old }
-    ensures taken_aside { O.taken_aside out.new ≡ O.taken_aside out.old }
+    ensures aside { O.inlet_aside out.new ≡ O.inlet_aside out.old }
 {
     let _ = input;
     match words_of(alloc, words) {
@@ -82,8 +81,7 @@ fn run<S: FileSource, K: FileKeeper, O: Outlet>(
     ensures kept { puts_files (Some (asked_seen asked.now)) ≡ false → keep.new ≡ keep.old }
     ensures unread { reads_files (Some (asked_seen asked.now)) ≡ false → (files.new ≡ files.old) × (result ≢ Status.ReadFault) }
     ensures made { reads_files (Some (asked_seen asked.now)) ≡ false → IsOfMaking result }
-    ensures left_aside { O.left_aside out.new ≡ O.left_aside out.old }
-    ensures taken_aside { O.taken_aside out.new ≡ O.taken_aside out.old }
+    ensures aside { O.inlet_aside out.new ≡ O.inlet_aside out.old }
 {
     match asked {
         Asked::Tiles { line } => answer_tiles(alloc, line.as_str(), files, out),

@@ -14,8 +14,7 @@ pub(crate) fn answer_survey<O: Outlet>(alloc: Global, recipe: &Recipe, out: &mut
     ensures replies { Replies (Ok (survey_reply recipe.now)) (O.given out.old) (O.given out.new) result }
     ensures status { IsOfMaking result }
     ensures write_fault { result ≡ Status.WriteFault → Rose (O.faults out.old) (O.faults out.new) }
-    ensures left_aside { O.left_aside out.new ≡ O.left_aside out.old }
-    ensures taken_aside { O.taken_aside out.new ≡ O.taken_aside out.old }
+    ensures aside { O.inlet_aside out.new ≡ O.inlet_aside out.old }
 {
     let Ok(found) = survey(alloc, recipe) else {
         return Status::Memory;

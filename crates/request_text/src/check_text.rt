@@ -27,8 +27,7 @@ pub fn write_check<O: Outlet>(
     ensures front { GivesFront (O.given out.old) (O.given out.new) (found_text scheme found.now end) }
     ensures failed { result ≡ Err GiveFault.WriteFault → Rose (O.faults out.old) (O.faults out.new) }
     ensures later { O.faults out.old ≤ O.faults out.new }
-    ensures left_aside { O.left_aside out.new ≡ O.left_aside out.old }
-    ensures taken_aside { O.taken_aside out.new ≡ O.taken_aside out.old }
+    ensures aside { O.inlet_aside out.new ≡ O.inlet_aside out.old }
 {
     let mut piece = String::new(alloc);
     for fault in found {

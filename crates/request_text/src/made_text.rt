@@ -21,8 +21,7 @@ pub fn write_made<O: Outlet>(
     ensures front { GivesFront (O.given out.old) (O.given out.new) (made_text files tiles) }
     ensures failed { result ≡ Err GiveFault.WriteFault → Rose (O.faults out.old) (O.faults out.new) }
     ensures later { O.faults out.old ≤ O.faults out.new }
-    ensures left_aside { O.left_aside out.new ≡ O.left_aside out.old }
-    ensures taken_aside { O.taken_aside out.new ≡ O.taken_aside out.old }
+    ensures aside { O.inlet_aside out.new ≡ O.inlet_aside out.old }
 {
     let mut piece = String::new(alloc);
     push_made(files, tiles, &mut piece)?;
@@ -45,8 +44,7 @@ pub fn write_survey<O: Outlet>(
     ensures front { GivesFront (O.given out.old) (O.given out.new) (survey_text files tiles listed contents more) }
     ensures failed { result ≡ Err GiveFault.WriteFault → Rose (O.faults out.old) (O.faults out.new) }
     ensures later { O.faults out.old ≤ O.faults out.new }
-    ensures left_aside { O.left_aside out.new ≡ O.left_aside out.old }
-    ensures taken_aside { O.taken_aside out.new ≡ O.taken_aside out.old }
+    ensures aside { O.inlet_aside out.new ≡ O.inlet_aside out.old }
 {
     let mut piece = String::new(alloc);
     push_survey(files, tiles, listed, contents, more, &mut piece)?;

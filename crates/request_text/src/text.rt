@@ -35,8 +35,7 @@ pub fn write_answer<O: Outlet>(
     ensures front { GivesFront (O.given out.old) (O.given out.new) (words_text layout.now words.now (end_seen layout.now.scheme end)) }
     ensures failed { result ≡ Err GiveFault.WriteFault → Rose (O.faults out.old) (O.faults out.new) }
     ensures later { O.faults out.old ≤ O.faults out.new }
-    ensures left_aside { O.left_aside out.new ≡ O.left_aside out.old }
-    ensures taken_aside { O.taken_aside out.new ≡ O.taken_aside out.old }
+    ensures aside { O.inlet_aside out.new ≡ O.inlet_aside out.old }
 {
     let mut piece = String::new(alloc);
     for word in words {
@@ -53,8 +52,7 @@ pub fn write_refusal<O: Outlet>(alloc: Global, number: u64, out: &mut O) -> Resu
     ensures front { GivesFront (O.given out.old) (O.given out.new) (refused_text number) }
     ensures failed { result ≡ Err GiveFault.WriteFault → Rose (O.faults out.old) (O.faults out.new) }
     ensures later { O.faults out.old ≤ O.faults out.new }
-    ensures left_aside { O.left_aside out.new ≡ O.left_aside out.old }
-    ensures taken_aside { O.taken_aside out.new ≡ O.taken_aside out.old }
+    ensures aside { O.inlet_aside out.new ≡ O.inlet_aside out.old }
 {
     let mut piece = String::new(alloc);
     push_refusal(number, &mut piece)?;

@@ -18,7 +18,8 @@ use Rattle.std.proofs.lemmas.Map.Text.{is_eq-slice_cmp}
 use Rattle.std.proofs.lemmas.Map.Views.{Contains-from_lookup, lookup-from_Contains}
 use Rattle.std.proofs.lemmas.Slice.Eq.{bytes_eq-Decides}
 use Rattle.implicit_tiling.specs.Files.{Files, file}
-use Rattle.scene_ports.specs.Files.{HasDistinctNames, HaveSameFiles, IsSortedByName, files_of}
+use Rattle.scene_ports.specs.Files.{HasDistinctNames, HaveSameFiles, files_of}
+use Rattle.scene_ports.specs.Places.{IsSortedByName}
 use Rattle.scene_ports.proofs.Named.{Pairs, bytes_differ, found_later, other_name}
 
 -- ---- names as keys

@@ -2,10 +2,6 @@
 -- same is found (this project's own).
 use Rattle.std.specs.Prelude.{ℕ, ◌≡◌, List, [], ◌∷◌, IsNone, map, String, string_bytes, Vec}
 use Rattle.std.specs.declared.alloc.Global.{Global}
-use Rattle.std.specs.Cmp.Lexicographic.{slice_cmp}
-use Rattle.std.specs.List.Sorted.{IsStrictlySortedBy}
-use Rattle.std.specs.Map.{keys_of}
-use Rattle.std.specs.Ordering.{nat_cmp}
 use mathlib.Core.HLevel.{×_prop, Unit-prop}
 use Rattle.std.proofs.Math.Bool.{Bool-set}
 use Rattle.implicit_tiling.specs.Files.{Files, file}
@@ -22,10 +18,6 @@ HasDistinctNames-prop (pair ∷ rest) = ×_prop (Bool-set _ _) (HasDistinctNames
 -- under every name the same is found
 abbrev pub HaveSameFiles : Files → Files → Type 0
 HaveSameFiles these those = (name : List ℕ) → file name these ≡ file name those
-
--- each name is less than those behind it, byte by byte
-abbrev pub IsSortedByName : Files → Type 0
-IsSortedByName files = IsStrictlySortedBy (slice_cmp nat_cmp) (keys_of files)
 
 -- the files that a vector of texts and bytes holds
 abbrev pub files_of : List (String Global × Vec ℕ Global) → Files

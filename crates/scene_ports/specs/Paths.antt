@@ -9,12 +9,12 @@ abbrev pub slash : ℕ
 slash = 47
 
 -- `..`
-abbrev pub parent : List ℕ
-parent = 46 ∷ 46 ∷ []
+abbrev pub parent_part : List ℕ
+parent_part = 46 ∷ 46 ∷ []
 
 -- one of the parts between slashes is `..`
 abbrev pub has_parent_part : List ℕ → Bool
-has_parent_part path = list_any (λ part. bytes_eq part parent) (slice_split (λ byte. byte == slash) path)
+has_parent_part path = list_any (λ part. bytes_eq part parent_part) (slice_split (λ byte. byte == slash) path)
 
 -- it stays in the folder: it is not empty and not absolute, and has no zero byte and no part `..`
 abbrev pub is_plain : List ℕ → Bool

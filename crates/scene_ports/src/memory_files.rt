@@ -2,7 +2,7 @@
 ghost use Rattle.std.specs.Prelude.{◌≡◌, ◌≤◌, ◌≢◌, ◌↔◌, [], Some, IfSome, IsSome, vec_len};
 ghost use Rattle.std.specs.Option.{option_copied};
 ghost use Rattle.scene_ports.specs.Files.{files_of, HasDistinctNames, HasDistinctNames-prop};
-ghost use Rattle.scene_ports.specs.Source.{Answers};
+ghost use Rattle.scene_ports.specs.Source.{IsFetched};
 
 use crate::pairs::{find, has_distinct_names};
 use crate::{Fetch, FileSource};
@@ -61,7 +61,7 @@ impl FileSource for MemoryFiles {
 // The answer of a source where these bytes are found.
 pub(crate) fn answer(found: Option<&[u8]>, limit: usize, out: &mut Vec<u8>) -> Fetch
     requires { out.old.items ≡ [] }
-    ensures found { Answers (option_copied found.entry) limit out.new.items result }
+    ensures found { IsFetched (option_copied found.entry) limit out.new.items result }
     ensures fits { vec_len out.new ≤ limit }
     ensures emptied { result ≢ Fetch.Whole → out.new.items ≡ [] }
     ensures sure { result ≢ Fetch.Failed }

@@ -1,7 +1,8 @@
 // A keeper of files in memory, which fails at chosen puts.
-ghost use Rattle.std.specs.Prelude.{◌≡◌, Some, [], OnOk, OnErr};
+ghost use Rattle.std.specs.Prelude.{◌≡◌, ◌≢◌, ◌≤◌, Some, [], OnOk, OnErr};
+ghost use Rattle.scene_ports.specs.Counts.{Rose};
 ghost use Rattle.scene_ports.specs.Files.{files_of, HasDistinctNames, HasDistinctNames-prop};
-ghost use Rattle.scene_ports.specs.Keeper.{Puts};
+ghost use Rattle.scene_ports.specs.Keeper.{Puts, PutsKnown};
 
 use crate::pairs::place_of;
 use crate::{FileKeeper, Put};
@@ -49,7 +50,14 @@ impl FileKeeper for MemoryKeeper {
 
     ghost distinct = { λ s. s.names };
 
-    fn put(&mut self, name: &str, bytes: &[u8]) -> Put {
+    fn put(&mut self, name: &str, bytes: &[u8]) -> Put
+        ensures puts { PutsKnown name.now bytes.now (Some (files_of self.old.files.items)) (Some (files_of self.new.files.items)) result }
+        ensures memory { result ≡ Put.Memory → Some (files_of self.new.files.items) ≡ Some (files_of self.old.files.items) }
+        ensures failed { result ≡ Put.Failed → Rose self.old.faults self.new.faults }
+        ensures sure { result ≢ Put.Failed → self.new.faults ≡ self.old.faults }
+        ensures later { self.old.faults ≤ self.new.faults }
+        ensures unchanged { result ≢ Put.Kept → self.new.files.items ≡ self.old.files.items }
+    {
         self.puts = self.puts.saturating_add(1);
         if self.failing.contains(&self.puts) {
             self.faults = self.faults.saturating_add(1);

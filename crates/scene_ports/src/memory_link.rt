@@ -28,6 +28,9 @@ impl MemoryLink {
         ensures taken { ⟦<MemoryLink as Inlet>⟧.taken result ≡ 0 }
         ensures given { ⟦<MemoryLink as Outlet>⟧.given result ≡ Some [] }
         ensures faults { ⟦<MemoryLink as Inlet>⟧.faults result ≡ 0 }
+        ensures give_faults { ⟦<MemoryLink as Outlet>⟧.faults result ≡ 0 }
+        ensures given_aside { ⟦<MemoryLink as Inlet>⟧.given_aside result ≡ Some [] }
+        ensures inlet_aside { ⟦<MemoryLink as Outlet>⟧.inlet_aside result ≡ Some (record { left = Some bytes.items; taken = 0 }) }
     {
         MemoryLink {
             bytes,
@@ -54,9 +57,7 @@ impl Outlet for MemoryLink {
 
     ghost faults = { λ s. s.faults };
 
-    ghost left_aside = { λ s. Some (drop s.at s.bytes.items) };
-
-    ghost taken_aside = { λ s. Some s.taken };
+    ghost inlet_aside = { λ s. Some (record { left = Some (drop s.at s.bytes.items); taken = s.taken }) };
 
     fn give(&mut self, bytes: &[u8]) -> Give {
         self.calls = self.calls.saturating_add(1);

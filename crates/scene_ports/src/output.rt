@@ -1,5 +1,5 @@
 // Giving texts to an outlet.
-ghost use Rattle.std.specs.Prelude.{◌≡◌, ◌≤◌, ◌<◌, [], IsOk, OnOk, OnErr, string_bytes, string_len};
+ghost use Rattle.std.specs.Prelude.{◌≡◌, ◌≢◌, ◌≤◌, ◌<◌, [], IsOk, OnOk, OnErr, string_bytes, string_len};
 ghost use Rattle.std.specs.Io.KnownBytes.{Appends};
 ghost use Rattle.scene_ports.specs.Counts.{Rose};
 ghost use Rattle.scene_ports.specs.Output.{GivesFront, GivesAllBut};
@@ -35,9 +35,9 @@ pub fn give_all<O: Outlet>(out: &mut O, bytes: &[u8]) -> Result<(), GiveFault>
     ensures given { OnOk result (Appends (O.given out.old) (O.given out.new) bytes.now) }
     ensures front { GivesFront (O.given out.old) (O.given out.new) bytes.now }
     ensures failed { result ≡ Err GiveFault.WriteFault → Rose (O.faults out.old) (O.faults out.new) }
+    ensures sure { result ≢ Err GiveFault.WriteFault → O.faults out.new ≡ O.faults out.old }
     ensures later { O.faults out.old ≤ O.faults out.new }
-    ensures left_aside { O.left_aside out.new ≡ O.left_aside out.old }
-    ensures taken_aside { O.taken_aside out.new ≡ O.taken_aside out.old }
+    ensures aside { O.inlet_aside out.new ≡ O.inlet_aside out.old }
 {
     let mut rest = bytes;
     while !rest.is_empty() {
@@ -57,9 +57,9 @@ pub fn give_rest<O: Outlet>(out: &mut O, piece: &mut String) -> Result<(), GiveF
     ensures held { OnErr result (string_bytes piece.new ≡ string_bytes piece.old) }
     ensures front { GivesFront (O.given out.old) (O.given out.new) (string_bytes piece.old) }
     ensures failed { result ≡ Err GiveFault.WriteFault → Rose (O.faults out.old) (O.faults out.new) }
+    ensures sure { result ≢ Err GiveFault.WriteFault → O.faults out.new ≡ O.faults out.old }
     ensures later { O.faults out.old ≤ O.faults out.new }
-    ensures left_aside { O.left_aside out.new ≡ O.left_aside out.old }
-    ensures taken_aside { O.taken_aside out.new ≡ O.taken_aside out.old }
+    ensures aside { O.inlet_aside out.new ≡ O.inlet_aside out.old }
 {
     give_all(out, piece.as_bytes())?;
     piece.clear();
@@ -79,9 +79,9 @@ pub fn give_when_full<O: Outlet>(out: &mut O, piece: &mut String) -> Result<(), 
     ensures held { OnErr result (string_bytes piece.new ≡ string_bytes piece.old) }
     ensures front { GivesFront (O.given out.old) (O.given out.new) (string_bytes piece.old) }
     ensures failed { result ≡ Err GiveFault.WriteFault → Rose (O.faults out.old) (O.faults out.new) }
+    ensures sure { result ≢ Err GiveFault.WriteFault → O.faults out.new ≡ O.faults out.old }
     ensures later { O.faults out.old ≤ O.faults out.new }
-    ensures left_aside { O.left_aside out.new ≡ O.left_aside out.old }
-    ensures taken_aside { O.taken_aside out.new ≡ O.taken_aside out.old }
+    ensures aside { O.inlet_aside out.new ≡ O.inlet_aside out.old }
 {
     if piece.len() < FULL {
         return Ok(());

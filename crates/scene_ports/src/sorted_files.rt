@@ -2,7 +2,8 @@
 ghost use Rattle.std.specs.Prelude.{◌≡◌, ◌↔◌, IsTrue};
 ghost use Rattle.std.specs.Option.{option_copied};
 ghost use Rattle.implicit_tiling.specs.Files.{file};
-ghost use Rattle.scene_ports.specs.Files.{files_of, HasDistinctNames, HaveSameFiles, IsSortedByName};
+ghost use Rattle.scene_ports.specs.Files.{files_of, HasDistinctNames, HaveSameFiles};
+ghost use Rattle.scene_ports.specs.Places.{IsSortedByName};
 
 // Sorts the files by name, and tells whether no two of them have one name.
 pub(crate) fn sort_by_name(files: &mut Vec<(String, Vec<u8>)>) -> bool

@@ -1,7 +1,8 @@
 // A source of files in memory that never fails.
 ghost use Rattle.std.specs.Prelude.{◌≡◌, ◌≤◌, ◌↔◌, Some, IfSome, IsSome, vec_len};
 ghost use Rattle.std.specs.List.Sorted.{IsStrictlySortedBy-prop};
-ghost use Rattle.scene_ports.specs.Files.{files_of, HasDistinctNames, HasDistinctNames-prop, HaveSameFiles, IsSortedByName};
+ghost use Rattle.scene_ports.specs.Files.{files_of, HasDistinctNames, HasDistinctNames-prop, HaveSameFiles};
+ghost use Rattle.scene_ports.specs.Places.{IsSortedByName};
 
 use crate::memory_files::answer;
 use crate::sorted_files::{find_sorted, sort_by_name};

@@ -7,6 +7,10 @@ use crate::{
 };
 use std::alloc::{AllocError, Global};
 use std::fs;
+use std::fs::Permissions;
+use std::io;
+use std::io::{ErrorKind, Read, Write};
+use std::os::unix::fs::{PermissionsExt, symlink};
 use std::test::Fail;
 
 fn pair(alloc: Global, name: &str, bytes: &[u8]) -> Result<(String, Vec<u8>), AllocError> {
@@ -209,5 +213,112 @@ fn the_folder_and_the_streams(rt: HostRuntime) -> Result<(), Fail> {
     fs::remove_file(&rt, "deep/c")?;
     fs::remove_file(&rt, "stream")?;
     fs::remove_dir(&rt, "deep")?;
+    Ok(())
+}
+
+// A reader and a writer that fail in one way.
+#[derive(Drop)]
+struct Failing {
+    kind: ErrorKind,
+}
+
+impl Read for Failing {
+    fn read(&mut self, buffer: &mut [u8]) -> io::Result<usize> {
+        let _ = buffer;
+        Err(io::Error::from(self.kind))
+    }
+}
+
+impl Write for Failing {
+    fn write(&mut self, bytes: &[u8]) -> io::Result<usize> {
+        let _ = bytes;
+        Err(io::Error::from(self.kind))
+    }
+
+    fn flush(&mut self) -> io::Result<()> {
+        Ok(())
+    }
+}
+
+#[test]
+fn streams_that_fail(rt: HostRuntime) -> Result<(), Fail> {
+    let rows = [
+        (ErrorKind::OutOfMemory, Give::Memory),
+        (ErrorKind::BrokenPipe, Give::Failed),
+        (ErrorKind::StorageFull, Give::Failed),
+    ];
+    for (kind, wanted) in rows {
+        let mut outlet = WriteOutlet::new(Failing { kind });
+        assert!(rt; outlet.give(b"xyz") == wanted);
+        assert!(rt; outlet.give(b"") == wanted);
+        let mut inlet = ReadInlet::new(Failing { kind });
+        let mut buffer = [0u8; 2];
+        assert!(rt; inlet.take(&mut buffer) == Take::Failed);
+    }
+    Ok(())
+}
+
+// A name is decoded once, and the file of the decoded name itself is opened, within the folder.
+#[test]
+fn the_folder_opens_the_path_of_the_name(rt: HostRuntime) -> Result<(), Fail> {
+    let alloc = rt.alloc();
+    let mut folder = Folder::here(alloc, rt.clone()?);
+    fs::create_dir(&rt, "%2e%2e")?;
+    let names: [(&str, &str); 4] = [
+        ("x", "x"),
+        ("y%20z", "y z"),
+        ("%252e%252e/x", "%2e%2e/x"),
+        ("a%2520b", "a%20b"),
+    ];
+    let mut out = Vec::new(alloc);
+    for (name, path) in names {
+        assert!(rt; folder.put(name, path.as_bytes()) == Put::Kept);
+        let bytes = fs::read(&rt, path)?;
+        assert!(rt; bytes.as_slice() == path.as_bytes());
+        assert!(rt; folder.fetch(name, MOST_FILE_BYTES, &mut out) == Fetch::Whole);
+        assert!(rt; out.as_slice() == path.as_bytes());
+    }
+    for name in ["../view_x", "%2e%2e/view_x", "%2E./view_x", "%2e%2e/../view_x"] {
+        assert!(rt; folder.put(name, b"1") == Put::Failed);
+        assert!(rt; folder.fetch(name, MOST_FILE_BYTES, &mut out) == Fetch::Missing);
+    }
+    assert!(rt; !fs::exists(&rt, "../view_x")?);
+    for (_, path) in names {
+        fs::remove_file(&rt, path)?;
+    }
+    fs::remove_dir(&rt, "%2e%2e")?;
+    Ok(())
+}
+
+// What the system refuses is never told as missing, and of a put that failed in mid-writing nothing stays.
+#[test]
+fn the_folder_where_the_system_refuses(rt: HostRuntime) -> Result<(), Fail> {
+    let alloc = rt.alloc();
+    let mut folder = Folder::here(alloc, rt.clone()?);
+    let mut out = Vec::new(alloc);
+    // Who may read everything reads it.
+    assert!(rt; folder.put("closed", b"12") == Put::Kept);
+    fs::set_permissions(&rt, "closed", Permissions::from_mode(0))?;
+    let answer = folder.fetch("closed", MOST_FILE_BYTES, &mut out);
+    assert!(rt; answer == Fetch::Failed || answer == Fetch::Whole && out.as_slice() == b"12".as_slice());
+    // A link to itself.
+    symlink(&rt, "round", "round")?;
+    assert!(rt; folder.fetch("round", MOST_FILE_BYTES, &mut out) == Fetch::Failed);
+    assert!(rt; folder.put("round", b"1") == Put::Failed);
+    // A name that is longer than a file may have.
+    let long = String::from_utf8(Vec::from_elem(alloc, b'a', 300)?);
+    if let Ok(long) = &long {
+        assert!(rt; folder.fetch(long.as_str(), MOST_FILE_BYTES, &mut out) == Fetch::Failed);
+    }
+    // A device that is full: the write fails after the file was opened.
+    symlink(&rt, "/dev/full", "full")?;
+    assert!(rt; folder.put("full", b"1") == Put::Failed);
+    assert!(rt; folder.fetch("full", MOST_FILE_BYTES, &mut out) == Fetch::Missing);
+    // A file that can't be opened is left as it is.
+    fs::create_dir(&rt, "taken")?;
+    assert!(rt; folder.put("taken", b"1") == Put::Failed);
+    fs::remove_dir(&rt, "taken")?;
+    fs::remove_file(&rt, "round")?;
+    fs::remove_file(&rt, "closed")?;
     Ok(())
 }

@@ -21,8 +21,7 @@ loop-fault-preserved g c = record {
   lines = line_given _ _ _ (found_line c.args.scheme) c.args.found.now c.loop-fault.fault-index past_end _ _ _ (omega arith) c.loop-fault.invariant.lines c.in_ok-push_fault_line.ensures
       c.in_ok-give_when_full.ensures.given;
   later = omega (arith, c.give_when_full.ensures.later, c.loop-fault.invariant.later);
-  left_aside = c.give_when_full.ensures.left_aside ∙ c.loop-fault.invariant.left_aside;
-  taken_aside = c.give_when_full.ensures.taken_aside ∙ c.loop-fault.invariant.taken_aside;
+  aside = c.give_when_full.ensures.aside ∙ c.loop-fault.invariant.aside;
 }
 
 pub returns-in_err-push_check_end-clause-front : goal.returns-in_err-push_check_end-clause-front

@@ -20,8 +20,7 @@ pub loop-word-preserved : goal.loop-word-preserved
 loop-word-preserved g c = record {
   lines = line_given _ _ _ (word_line c.args.layout.now) c.args.words.now c.loop-word.word-index 0 _ _ _ (omega arith) c.loop-word.invariant.lines c.in_ok-push_word_line.ensures c.in_ok-give_when_full.ensures.given;
   later = omega (arith, c.give_when_full.ensures.later, c.loop-word.invariant.later);
-  left_aside = c.give_when_full.ensures.left_aside ∙ c.loop-word.invariant.left_aside;
-  taken_aside = c.give_when_full.ensures.taken_aside ∙ c.loop-word.invariant.taken_aside;
+  aside = c.give_when_full.ensures.aside ∙ c.loop-word.invariant.aside;
 }
 
 pub returns-in_err-push_end_line-clause-front : goal.returns-in_err-push_end_line-clause-front

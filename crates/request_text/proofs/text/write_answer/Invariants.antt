@@ -9,6 +9,5 @@ abbrev pub invariant-loop-word : goal.invariant-loop-word
 invariant-loop-word g l = record {
   lines : GivesAllBut (g.O.Outlet.given l.initial.out) (g.O.Outlet.given l.out) (string_bytes l.piece) (flat_map (word_line l.layout) (take l.word-index l.words));
   later : g.O.Outlet.faults l.initial.out ≤ g.O.Outlet.faults l.out;
-  left_aside : g.O.Outlet.left_aside l.out ≡ g.O.Outlet.left_aside l.initial.out;
-  taken_aside : g.O.Outlet.taken_aside l.out ≡ g.O.Outlet.taken_aside l.initial.out;
+  aside : g.O.Outlet.inlet_aside l.out ≡ g.O.Outlet.inlet_aside l.initial.out;
 }

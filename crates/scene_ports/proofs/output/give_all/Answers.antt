@@ -1,11 +1,10 @@
-use Rattle.std.proofs.Common.{arith, ◌∙◌}
+use Rattle.std.proofs.Common.{rules, ◌∙◌}
 use Rattle.scene_ports.proofs.Giving.{all_but_rest}
 use Rattle.scene_ports.proofs.output.give_all.Goals as goal
 
 pub loop-rest-preserved : goal.loop-rest-preserved
 loop-rest-preserved g c = record {
   under_way = all_but_rest _ _ _ _ _ c.in-Took.n c.loop-rest.invariant.under_way c.in-Took.ensures.given;
-  later = omega (arith, c.give.ensures.later);
-  left_aside = c.give.ensures.left_aside ∙ c.loop-rest.invariant.left_aside;
-  taken_aside = c.give.ensures.taken_aside ∙ c.loop-rest.invariant.taken_aside;
+  sure = c.in-Took.ensures.sure (search rules) ∙ c.loop-rest.invariant.sure;
+  aside = c.give.ensures.aside ∙ c.loop-rest.invariant.aside;
 }

@@ -2,11 +2,11 @@ use Rattle.std.proofs.Common.{rules, tests, lit<}
 use Rattle.std.specs.Str.{bytes_eq}
 use Rattle.std.proofs.lemmas.Iterator.Search.{any_from_yields_List}
 use Rattle.std.proofs.lemmas.Iterator.Splits.{YieldsList-from_str_split}
-use Rattle.scene_ports.specs.Paths.{slash, parent}
+use Rattle.scene_ports.specs.Paths.{slash, parent_part}
 use Rattle.scene_ports.proofs.path.has_parent_part.Goals as goal
 
 pub returns : goal.returns
 returns c =
-    any_from_yields_List (λ part. bytes_eq part parent) _ _ _ c.any.ensures.ran
+    any_from_yields_List (λ part. bytes_eq part parent_part) _ _ _ c.any.ensures.ran
     (YieldsList-from_str_split slash c.args.path.now (lit< tt) c.split.ensures.text c.split.ensures.has_more c.split.ensures.pattern)
     (λ x b q k. search (rules, tests))

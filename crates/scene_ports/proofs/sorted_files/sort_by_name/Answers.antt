@@ -1,7 +1,8 @@
 use Rattle.std.proofs.Common.{rules}
 use Rattle.std.specs.Prelude.{MatchBool}
 use Rattle.std.proofs.lemmas.List.Sorted.{answers_always}
-use Rattle.scene_ports.specs.Files.{files_of, HasDistinctNames, IsSortedByName}
+use Rattle.scene_ports.specs.Files.{files_of, HasDistinctNames}
+use Rattle.scene_ports.specs.Places.{IsSortedByName}
 use Rattle.scene_ports.proofs.ByName.{is_before, told_by_neighbours, distinct_told, sorted_told, sorted_distinct, same_told}
 use Rattle.scene_ports.proofs.sorted_files.sort_by_name.Goals as goal
 

@@ -1,12 +1,11 @@
-use Rattle.std.proofs.Common.{◌≡◌, ap, ◌∙◌, subst}
-use Rattle.std.specs.Prelude.{IsUtf8, Some, None, cond}
+use Rattle.std.proofs.Common.{◌≡◌, ap, sym, ◌∙◌, subst}
+use Rattle.std.specs.Prelude.{IsUtf8, Some, true}
 use Rattle.std.specs.Cow.{cow_str_bytes}
-use Rattle.std.specs.Option.{option_map}
 use Rattle.percent_encoding.specs.Percent.{percent_decode}
 use Rattle.percent_encoding.specs.Iter.{decoded_bytes}
 use Rattle.scene_ports.specs.Paths.{is_plain}
-use Rattle.scene_ports.proofs.Decoded.{shown_if, text_path, broken_path, text_error}
-use Rattle.scene_ports.proofs.path.path_of.Goals as goal
+use Rattle.scene_ports.proofs.Decoded.{text_path, broken_path, text_error}
+use Rattle.scene_ports.proofs.path.PlainPath.named.Goals as goal
 
 pub returns-in-Err-Utf8-clause-path : goal.returns-in-Err-Utf8-clause-path
 returns-in-Err-Utf8-clause-path c =
@@ -18,8 +17,6 @@ pub returns-clause-path : goal.returns-clause-path
 returns-clause-path c =
     let bytes = percent_decode c.args.name.now in
     let decoded : decoded_bytes c.percent_decode.result ≡ bytes = c.percent_decode.ensures.bytes ∙ ap percent_decode c.as_bytes.ensures.value in
-    let shown : cow_str_bytes c.in-Ok.path ≡ bytes = c.in-Ok.ensures.value ∙ decoded in
-    ap (option_map cow_str_bytes) c.then_some.ensures
-    ∙ shown_if cow_str_bytes c.is_plain.result c.in-Ok.path
-    ∙ ap (λ path. cond c.is_plain.result (Some path) None) shown
-    ∙ text_path bytes c.is_plain.result (subst IsUtf8 decoded c.in-Ok.ensures.ok_only_if_utf8) (c.is_plain.ensures ∙ ap is_plain (c.as_str.ensures.value ∙ shown))
+    let shown : cow_str_bytes c.in-Ok.text ≡ bytes = c.in-Ok.ensures.value ∙ decoded in
+    ap (λ path. Some path) shown
+    ∙ text_path bytes true (subst IsUtf8 decoded c.in-Ok.ensures.ok_only_if_utf8) (sym c.if-not-is_plain.false ∙ c.is_plain.ensures ∙ ap is_plain (c.as_str.ensures.value ∙ shown))
