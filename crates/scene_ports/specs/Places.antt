@@ -1,4 +1,4 @@
--- For proofs alone: files in the order of their names, and a map that has the place of each name (this project's own).
+-- For proofs and inner functions: files in the order of their names, and a map that has the place of each name (this project's own).
 use Rattle.std.specs.Prelude.{ℕ, ◌≡◌, List, position, String, string_bytes, Vec}
 use Rattle.std.specs.declared.alloc.Global.{Global}
 use Rattle.std.specs.Cmp.Lexicographic.{slice_cmp}
