@@ -1,14 +1,40 @@
-# make demo: builds `view` and runs it on the example. make test: the gate, and the checks of the built program.
+# `view` and its checks. CONTRIBUTING.md says when to use which; CRATE, ONLY and CASE are given as in `make check CRATE=morton`.
 VIEW = crates/view/out/view
 
-.PHONY: demo test build
+.PHONY: demo test build check unit edits texts outside times
 
+# Builds `view` and runs it on the example.
 demo: build
 	cd examples/one_subtree && ../../$(VIEW) tiles 1 0,0 1,1
 
+# The gate, and the checks of the built program.
 test:
 	bash .ci/run
 
 # Building means proving: what was proved before is kept in crates/*/out, and rt says how far it is as it goes.
 build:
 	bash tests/build
+
+# Proves one crate, or of it one function: make check CRATE=morton ONLY=index2
+check:
+	cd crates/$(CRATE) && rt check $(if $(ONLY),--only $(ONLY))
+
+# Proves and runs the tests of one crate.
+unit:
+	cd crates/$(CRATE) && rt test
+
+# Tries the must-fail edits of one crate.
+edits:
+	rt must-fail $(CRATE)
+
+# The documents and the edits as texts, with no proof.
+texts:
+	bash tests/run --texts
+
+# The built program from outside, or only the cases whose name has a word: make outside CASE=octree
+outside: build
+	python3 tests/black_box.py $(VIEW) $(CASE)
+
+# The gate's proofs, and what each crate took of the processors.
+times:
+	python3 tests/gate_times.py rt ci

@@ -1,9 +1,12 @@
-#!/usr/bin/env python3
 """Checks the built program from outside: what it writes, its line on standard error and its exit status.
 
-Usage: black_box.py PROGRAM. Each case runs in a folder of its own. Expected texts are written out, or computed by the plain
-rules of the standard, and never taken from the program."""
+Usage: black_box.py PROGRAM [WORD]. With a word only the cases are run whose name has it, and there must be one. Each case runs
+in a folder of its own. Expected texts are written out, or computed by the plain rules of the standard, and never taken from
+the program."""
 import sys
+
+if not 2 <= len(sys.argv) <= 3:
+    sys.exit(__doc__)
 
 import harness
 import making
@@ -11,5 +14,6 @@ import walking
 
 walking.cases()
 making.cases()
-print(f"black box: {harness.counts['passed']} passed, {harness.counts['failed']} failed")
-sys.exit(1 if harness.counts["failed"] else 0)
+passed, failed = harness.counts["passed"], harness.counts["failed"]
+print(f"black box: {passed} passed, {failed} failed" + (f", of the cases with {harness.WORD!r}" if harness.WORD else ""))
+sys.exit(1 if failed or not passed else 0)

@@ -1,6 +1,7 @@
 #!/usr/bin/env python3
-"""Checks that the documents name what is there: each definition of docs/definitions.md stands in the file beside it, and each
-name in docs/proofs.md is that of a crate, a module, a type, a function or a clause.
+"""Checks that the documents name what is there: each definition of docs/definitions.md stands in the file beside it, each name
+in docs/proofs.md is that of a crate, a module, a type, a function or a clause, docs/architecture.md has each crate, and all
+of them name files and targets of `make` that are there.
 
 Checks too that docs/definitions.md is whole. A page of definitions is on it, or says in its first line that it is for proofs and
 inner functions. No page on it, and no clause of a function that docs/proofs.md names, cites a page of the latter kind.
@@ -19,6 +20,9 @@ INNER = "-- For proofs and inner functions: "
 CITED = re.compile(r"use Rattle\.(\w+)\.specs\.(\w+)\.\{([^}]*)\}")
 FUNCTION = re.compile(r"(?:pub(?:\(crate\))? )?(?:const |unsafe )*fn (\w+)")
 WORD = re.compile(r"[A-Za-z_][\w'-]*")
+DOCUMENTS = ("README.md", "CONTRIBUTING.md", "docs/*.md", "examples/*/README.md")
+# A path from the top, or one that begins with a crate, as the pages of definitions and proofs have them.
+PATH = re.compile(r"(?:[\w.]+/)+[\w.,{}/]*")
 
 
 def read(path):
@@ -139,8 +143,44 @@ def incomplete_definitions():
                     yield f"proofs.md: {crate}, {function} cites {'/'.join(cited)}, which is for proofs and inner functions"
 
 
-problems = [*missing_definitions(), *unknown_names(), *incomplete_definitions()]
+def unknown_crates():
+    """Crates that the page of the architecture leaves out, and those that it has and that aren't there."""
+    named = set(re.findall(r"\*\*`(\w+)`\*\*", read(os.path.join(TOP, "docs", "architecture.md"))))
+    there = set(os.listdir(os.path.join(TOP, "crates")))
+    for name in sorted(named ^ there):
+        yield f"architecture.md: {name} is {'in no paragraph' if name in there else 'no crate'}"
+
+
+def documents():
+    for pattern in DOCUMENTS:
+        for path in sorted(glob.glob(os.path.join(TOP, pattern))):
+            yield os.path.relpath(path, TOP), read(path)
+
+
+def missing_files():
+    """Quoted paths to nothing. Words in capitals stand for a name of the reader's choice, and out/ is made."""
+    tops = set(os.listdir(TOP)) | set(os.listdir(os.path.join(TOP, "crates")))
+    for document, text in documents():
+        for quoted in QUOTED.findall(text):
+            if not PATH.fullmatch(quoted) or quoted.split("/")[0] not in tops or "out" in quoted.split("/") or re.search(r"\b[A-Z]+\b", quoted):
+                continue
+            for path in expanded(quoted):
+                if not any(os.path.exists(os.path.join(TOP, top, path)) for top in ("", "crates")):
+                    yield f"{document}: no file {path}"
+
+
+def unknown_targets():
+    targets = set(re.findall(r"(?m)^(\w+):", read(os.path.join(TOP, "Makefile"))))
+    for document, text in documents():
+        for name in re.findall(r"(?:^|`)make (\w+)", text, re.M):
+            if name not in targets:
+                yield f"{document}: make {name} is no target"
+
+
+problems = [
+    *missing_definitions(), *incomplete_definitions(), *unknown_names(), *unknown_crates(), *missing_files(), *unknown_targets()
+]
 for problem in problems:
     print(f"FAILED {problem}")
-print(f"documents: {len(problems)} names that are not there")
+print(f"documents: {len(problems)} problems")
 sys.exit(1 if problems else 0)

@@ -1,4 +1,5 @@
 """Running the program from outside, and telling what was wrong. Texts are written with `|` for TAB."""
+import functools
 import os
 import shutil
 import socket
@@ -7,9 +8,24 @@ import sys
 import tempfile
 
 PROGRAM = os.path.abspath(sys.argv[1])
+WORD = sys.argv[2] if len(sys.argv) > 2 else ""
 MESSAGES = {0: "", 1: "view: a subtree is faulty\n", 2: "view: usage\n", 4: "view: read fault\n", 5: "view: write fault\n",
             6: "view: input fault\n", 7: "view: out of memory\n", 8: "view: input too long\n"}
 counts = {"passed": 0, "failed": 0}
+
+
+def is_chosen(name):
+    """Whether a case is to be run: those whose name has the word that was given, or all."""
+    return WORD in name
+
+
+def case(check):
+    """A check that is passed over where the case of that name isn't to be run."""
+    @functools.wraps(check)
+    def chosen(name, *given, **named):
+        if is_chosen(name):
+            check(name, *given, **named)
+    return chosen
 
 
 def report(name, problems):
@@ -48,6 +64,7 @@ def files_in(folder):
     return found
 
 
+@case
 def run(name, files, words, wanted, status=0, message=None, stdout=None):
     """Runs the program over these files; `wanted` is its whole standard output."""
     folder = tempfile.mkdtemp(prefix="view ")
@@ -69,6 +86,7 @@ def run(name, files, words, wanted, status=0, message=None, stdout=None):
         shutil.rmtree(folder)
 
 
+@case
 def shell(name, files, command, wanted, note):
     """Runs a shell command in a folder of these files, with the program as $VIEW."""
     folder = tempfile.mkdtemp(prefix="view ")
@@ -81,6 +99,7 @@ def shell(name, files, command, wanted, note):
         shutil.rmtree(folder)
 
 
+@case
 def pieces(name, files, words, wanted):
     """Runs the program with a socket for its output, which keeps writes apart: each has at most 65,536 bytes, and all but
     the last have at least half of that. Together they are the text that is wanted."""
@@ -101,6 +120,7 @@ def pieces(name, files, words, wanted):
         shutil.rmtree(folder)
 
 
+@case
 def left_in_folder(name, there, words, wanted, text, status, stdout=None):
     """Runs the program over files that are there, and looks at what is there then."""
     folder = tempfile.mkdtemp(prefix="view ")

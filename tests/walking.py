@@ -5,7 +5,7 @@ import shutil
 import subprocess
 import tempfile
 
-from harness import PROGRAM, lines, pieces, report, run, shell, write_files
+from harness import PROGRAM, case, lines, pieces, report, run, shell, write_files
 from tilesets import (A_JSON, A_ROOT, A_WHOLE, NAME, all_ones, made_files, make, pack, set_buffer, set_child, set_view, tileset,
                       tileset_a, tileset_b, tileset_c, tileset_d, with_tile_bits)
 
@@ -119,22 +119,28 @@ def check_cases():
     run("check_of_a_folder", {**tileset_a(), "s/0/0/0.subtree": None}, ["check"], "", 4)
 
 
+@case
+def example(name, scene, words, wanted):
+    """Runs the program on an example, in its own folder."""
+    done = subprocess.run([PROGRAM] + words, cwd=os.path.join(make.HERE, scene["name"]), capture_output=True, timeout=120)
+    report(name, [] if (done.returncode, done.stdout.decode()) == (0, wanted) else
+           [f"status {done.returncode}, output {done.stdout[:200]!r}, not {wanted[:200]!r}"])
+
+
+def box_words(level, low, high):
+    return ["tiles", str(level), ",".join(map(str, low)), ",".join(map(str, high))]
+
+
 def example_cases():
     """The examples, against the sets of tiles that they were made from."""
     for scene in make.SCENES:
-        folder = os.path.join(make.HERE, scene["name"])
         last = scene["levels"] - 1
         whole = (tuple([0] * scene["axes"]), tuple([2 ** last - 1] * scene["axes"]))
         part = (tuple([2 ** last // 4] * scene["axes"]), tuple([2 ** last // 2] * scene["axes"]))
         for name, level, (low, high) in (("whole", last, whole), ("part", last, part), ("top", 0, (whole[0], whole[0]))):
-            words = ["tiles", str(level), ",".join(map(str, low)), ",".join(map(str, high))]
-            done = subprocess.run([PROGRAM] + words, cwd=folder, capture_output=True, timeout=120)
-            wanted = make.answer(scene, level, low, high)
-            report(f"{scene['name']}_{name}", [] if (done.returncode, done.stdout.decode()) == (0, wanted) else
-                   [f"status {done.returncode}, output {done.stdout[:200]!r}, not {wanted[:200]!r}"])
+            example(f"{scene['name']}_{name}", scene, box_words(level, low, high), make.answer(scene, level, low, high))
         roots = sum(1 for tile in scene["tiles"] if tile[0] % scene["subtree"] == 0)
-        done = subprocess.run([PROGRAM, "check"], cwd=folder, capture_output=True, timeout=120)
-        report(f"{scene['name']}_check", [] if done.stdout.decode() == f"end\tchecked\t{roots}\t0\n" else [repr(done.stdout)])
+        example(f"{scene['name']}_check", scene, ["check"], lines(f"end|checked|{roots}|0"))
 
 
 def random_scene(random):
@@ -156,25 +162,30 @@ def random_box(random, axes, level):
     return tuple(low for low, _ in ends), tuple(high for _, high in ends)
 
 
+@case
+def random_tileset(name, scene, asked):
+    """Asks for boxes of a tileset, against the set of its tiles."""
+    folder = tempfile.mkdtemp(prefix="view ")
+    try:
+        write_files(folder, made_files(scene))
+        problems = []
+        for level, (low, high) in asked:
+            words = box_words(level, low, high)
+            done = subprocess.run([PROGRAM] + words, cwd=folder, capture_output=True, timeout=120)
+            if (done.returncode, done.stdout.decode()) != (0, make.answer(scene, level, low, high)):
+                problems.append(f"{words}: status {done.returncode}, output {done.stdout[:200]!r}")
+        report(name, problems)
+    finally:
+        shutil.rmtree(folder)
+
+
 def random_cases():
-    """Tilesets and boxes at random, always the same ones, against the set of tiles."""
+    """Tilesets and boxes at random, always the same ones."""
     chosen = random.Random(20221)
     for number in range(30):
         scene = random_scene(chosen)
-        folder = tempfile.mkdtemp(prefix="view ")
-        try:
-            write_files(folder, made_files(scene))
-            problems = []
-            for _ in range(6):
-                level = chosen.randrange(scene["levels"])
-                low, high = random_box(chosen, scene["axes"], level)
-                words = ["tiles", str(level), ",".join(map(str, low)), ",".join(map(str, high))]
-                done = subprocess.run([PROGRAM] + words, cwd=folder, capture_output=True, timeout=120)
-                if (done.returncode, done.stdout.decode()) != (0, make.answer(scene, level, low, high)):
-                    problems.append(f"{words}: status {done.returncode}, output {done.stdout[:200]!r}")
-            report(f"random_tileset_{number}", problems)
-        finally:
-            shutil.rmtree(folder)
+        levels = (chosen.randrange(scene["levels"]) for _ in range(6))
+        random_tileset(f"random_tileset_{number}", scene, [(level, random_box(chosen, scene["axes"], level)) for level in levels])
 
 
 def cases():
