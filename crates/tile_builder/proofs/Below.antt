@@ -13,7 +13,8 @@ use Rattle.implicit_tiling.specs.Scene.{Layout}
 use Rattle.implicit_tiling.specs.Code.{word_tile, IsWord}
 use Rattle.tiling_laws.proofs.TileAt.{tile_at_level, index_of_tile_at}
 use Rattle.tiling_laws.proofs.Ancestors.{descendants, branching_pow_pos}
-use Rattle.walk_laws.proofs.Lists.{filter_same, filter_none}
+use Rattle.tiling_laws.proofs.Walk.{filter_same}
+use Rattle.walk_laws.proofs.Lists.{filter_none}
 use Rattle.walk_laws.proofs.Plain.{same_test}
 use Rattle.walk_laws.proofs.Runs.{run_fits}
 use Rattle.availability.proofs.Levels.{indices_fit, levels_below_32}
