@@ -8,7 +8,7 @@ use Rattle.implicit_tiling.specs.Region.{Region}
 use Rattle.implicit_tiling.specs.Scene.{Layout}
 use Rattle.implicit_tiling.specs.Subtree.{Subtree, IsOf}
 use Rattle.implicit_tiling.specs.Code.{word, word_tile}
-use Rattle.availability.proofs.Tiles.{parts_have_their_word, word_tile_level, word_tile_is_tile}
+use Rattle.tile_word.proofs.Tiles.{parts_have_their_word, word_tile_level, word_tile_is_tile}
 use Rattle.region_cursor.specs.Cursor.{Cursor, IsWalkOf, IsSameWalk, IsRootKey, FitsSubtree, Fits, key_of, next_root, root_level_of, HasNoOrphan}
 use Rattle.implicit_tiling.specs.Availability.{local_level, IsRootOf}
 use Rattle.tile_walk.specs.Outcomes.{IsOutcomeAt}

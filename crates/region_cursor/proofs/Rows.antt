@@ -12,7 +12,7 @@ use Rattle.implicit_tiling.specs.Subtree.{Subtree, IsSubtree}
 use Rattle.implicit_tiling.specs.Code.{word}
 use Rattle.implicit_tiling.specs.Nodes.{child_words}
 use Rattle.walk_laws.proofs.Segments.{at_start, local_low, local_of}
-use Rattle.availability.proofs.Tiles.{level_of_word}
+use Rattle.tile_word.proofs.Tiles.{level_of_word}
 use Rattle.region_cursor.specs.Cursor.{Cursor, IsCursor, IsRootAt, IsRootKey, FitsSubtree, is_last_local, root_level_of, key_of}
 use Rattle.region_cursor.proofs.Words.{child_words_are_words}
 use Rattle.region_cursor.proofs.Passing.{begins_below}

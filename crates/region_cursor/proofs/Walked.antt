@@ -22,8 +22,8 @@ use Rattle.implicit_tiling.specs.Steps.{pair_of, walk_roots, segment, pair_fault
 use Rattle.tile_coords.specs.Ends.{end_seen}
 use Rattle.tile_coords.specs.declared.walk_end.WalkEnd.{WalkEnd}
 use Rattle.tile_coords.specs.declared.walk_end.WalkEnd.TheVariants.{TooMany, Fault}
-use Rattle.availability.specs.Words.{HasWord}
-use Rattle.availability.proofs.Tiles.{tile_of_word}
+use Rattle.tile_word.specs.Words.{HasWord}
+use Rattle.tile_word.proofs.Tiles.{tile_of_word}
 use Rattle.walk_laws.specs.Regions.{IsRegion}
 use Rattle.walk_laws.specs.Children.{roots_below}
 use Rattle.walk_laws.specs.Decoded.{IsDecoded}

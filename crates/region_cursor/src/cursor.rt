@@ -12,13 +12,14 @@ ghost use Rattle.region_cursor.specs.Cursor.{local_level_of, is_last_local as is
 ghost use Rattle.region_cursor.specs.Moves.{begun, over, next_level, level_after, passed, went_on, with_children, made, made_good, made_bad};
 ghost use Rattle.region_cursor.specs.Walked.{IsAt, IsNextKey, GivesStep};
 
-use availability::{Subtree, word_of};
+use availability::Subtree;
 use region_scan::{child_roots, level_tiles};
 use std::alloc::{AllocError, Global};
 use std::marker::Model;
 use std::mem::swap;
 use tile_coords::{Plan, Region, Scheme, Tile, WalkEnd, Word};
 use tile_walk::Outcome;
+use tile_word::word_of;
 use tileset_json::Layout;
 
 // The most tiles of an answer.

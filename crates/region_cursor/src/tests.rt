@@ -6,12 +6,13 @@ ghost use Rattle.implicit_tiling.specs.Code.{word_tile};
 ghost use Rattle.tile_walk.specs.Outcomes.{IsFoundAt, IsOutcomeAt};
 
 use crate::CursorState;
-use availability::{Subtree, nodes_above, nodes_at, tile_of};
+use availability::{Subtree, nodes_above};
 use bitstream::Bits;
 use std::alloc::{AllocError, Global};
 use std::test::Fail;
 use tile_coords::{Plan, Region, Scheme, Tile, WalkEnd, Word};
 use tile_walk::Outcome;
+use tile_word::{nodes_at, tile_of};
 use tileset_json::Layout;
 use uri_template::Template;
 

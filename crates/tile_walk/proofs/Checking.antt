@@ -16,7 +16,7 @@ use Rattle.implicit_tiling.specs.Answer.{fault_at}
 use Rattle.implicit_tiling.specs.Checked.{most_roots, Checked}
 use Rattle.implicit_tiling.specs.Code.{word, word_tile}
 use Rattle.implicit_tiling.specs.Steps.{walk_roots}
-use Rattle.availability.proofs.Tiles.{parts_have_their_word}
+use Rattle.tile_word.proofs.Tiles.{parts_have_their_word}
 use Rattle.region_scan.proofs.NodeWords.{found_words_are_words}
 use Rattle.walk_laws.specs.Children.{roots_below}
 use Rattle.walk_laws.specs.Frontiers.{whole_of, reached_above, reached_at}

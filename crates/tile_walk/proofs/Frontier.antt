@@ -16,8 +16,8 @@ use Rattle.implicit_tiling.specs.Scene.{Layout, Scene, fault_of}
 use Rattle.implicit_tiling.specs.Answer.{is_on_walk}
 use Rattle.implicit_tiling.specs.Code.{word, word_tile, word_level, word_index}
 use Rattle.implicit_tiling.specs.Steps.{root_level, walk_roots, pair_fault}
-use Rattle.availability.specs.Words.{HasWord}
-use Rattle.availability.proofs.Tiles.{words_have_their_parts}
+use Rattle.tile_word.specs.Words.{HasWord}
+use Rattle.tile_word.proofs.Tiles.{words_have_their_parts}
 use Rattle.tiling_laws.proofs.TileAt.{tile_at_level}
 use Rattle.walk_laws.specs.Children.{roots_below}
 use Rattle.walk_laws.specs.Regions.{IsRegion}

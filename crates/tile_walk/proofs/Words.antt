@@ -18,8 +18,8 @@ use Rattle.implicit_tiling.specs.Steps.{descendants, ended}
 use Rattle.tile_coords.specs.Ends.{end_seen, end_word, EndsAtRoot}
 use Rattle.tile_coords.specs.declared.walk_end.WalkEnd.{WalkEnd}
 use Rattle.tile_coords.specs.declared.walk_end.WalkEnd.TheVariants.{Partial, Complete, TooMany, Fault}
-use Rattle.availability.specs.Words.{HasWord}
-use Rattle.availability.proofs.Tiles.{words_have_their_parts, parts_have_their_word}
+use Rattle.tile_word.specs.Words.{HasWord}
+use Rattle.tile_word.proofs.Tiles.{words_have_their_parts, parts_have_their_word}
 use Rattle.walk_laws.specs.Decoded.{IsDecoded}
 use Rattle.walk_laws.specs.Children.{roots_below}
 use Rattle.walk_laws.proofs.Lists.{map_same, map-map}

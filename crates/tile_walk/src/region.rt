@@ -10,10 +10,10 @@ ghost use Rattle.tile_walk.specs.Walks.{AreFound, IsAnswer, frontier_if, is_last
 
 use crate::level::walk_level;
 use crate::outcome::WalkStop;
-use availability::word_of;
 use scene_ports::FileSource;
 use std::alloc::{AllocError, Global};
 use tile_coords::{Plan, Region, Scheme, Tile, WalkEnd, Word};
+use tile_word::word_of;
 use tileset_json::Layout;
 
 /// The answer for a plan that fits the layout, read anew: `words` becomes the words of its tiles in key order, at most

@@ -13,11 +13,12 @@ ghost use Rattle.implicit_tiling.specs.Availability.{IsRootOf};
 ghost use Rattle.tile_walk.specs.Walks.{Walks, word_pair, next_roots, AreFound, IsWalked};
 
 use crate::outcome::{Outcome, WalkStop, read_subtree};
-use availability::{Subtree, word_tile};
+use availability::Subtree;
 use region_scan::{child_roots, level_tiles};
 use scene_ports::FileSource;
 use std::alloc::{AllocError, Global};
 use tile_coords::{Region, Tile, WalkEnd, Word};
+use tile_word::word_tile;
 use tileset_json::Layout;
 
 // The most tiles of an answer (this project's own).

@@ -15,13 +15,13 @@ use crate::found::Survey;
 use crate::layout::layout_of;
 use crate::making::make;
 use crate::recipe::Recipe;
-use availability::mask_of;
 use framed_walk::framed;
 use scene_ports::{FileSource, SureFiles, SureKeeper};
 use std::alloc::{AllocError, Global};
 use tile_builder::{BuildStop, Built};
 use tile_coords::{WalkEnd, Word};
 use tile_walk::{WalkStop, whole_plan};
+use tile_word::mask_of;
 use tileset_json::Layout;
 
 // The frames of the walk over all tiles.

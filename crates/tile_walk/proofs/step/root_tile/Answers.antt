@@ -4,7 +4,7 @@ use Rattle.implicit_tiling.specs.declared.Scheme.{Scheme}
 use Rattle.implicit_tiling.specs.Tile.{Tile, IsTile}
 use Rattle.implicit_tiling.specs.Scene.{Layout}
 use Rattle.implicit_tiling.specs.Availability.{local_level}
-use Rattle.availability.proofs.Tiles.{word_tile_level}
+use Rattle.tile_word.proofs.Tiles.{word_tile_level}
 use Rattle.tile_walk.proofs.step.root_tile.Goals as goal
 
 pub returns-clause-level : goal.returns-clause-level
