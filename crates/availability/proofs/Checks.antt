@@ -11,7 +11,7 @@ use Rattle.implicit_tiling.specs.Tile.{branching}
 use Rattle.implicit_tiling.specs.Availability.{nodes_above}
 use Rattle.implicit_tiling.specs.Subtree.{Subtree, IsSubtree, is_kept, node_bit, has_tile, some_node, has_orphan, has_content_alone}
 use Rattle.implicit_tiling.specs.Bits.{bit_at}
-use Rattle.availability.specs.Rules.{IsKeptCount, raw_bit, raw_orphan}
+use Rattle.availability.specs.Rules.{IsKeptCount, node_raw_bit, raw_orphan}
 use Rattle.bitstream.specs.Bits.{ones_of}
 use Rattle.bitstream.proofs.Full.{all_true}
 use Rattle.availability.proofs.Orphans.{parent_within}
@@ -56,8 +56,8 @@ kept_false s k l count low high = le-ltb (s.root.level + l) s.cut (let less : k 
 orphan_kept : (s : Subtree) (l m : ℕ) → is_kept s l ≡ true → is_kept s (l - 1) ≡ true
     → (has_tile s l m && not (has_tile s (l - 1) (m / branching s.scheme))) ≡ raw_orphan s.scheme s.tiles l m
 orphan_kept s l m own above =
-    ap (λ k. (k && raw_bit s.scheme s.tiles l m) && not (has_tile s (l - 1) (m / branching s.scheme))) own
-    ∙ ap (λ k. raw_bit s.scheme s.tiles l m && not (k && raw_bit s.scheme s.tiles (l - 1) (m / branching s.scheme))) above
+    ap (λ k. (k && node_raw_bit s.scheme s.tiles l m) && not (has_tile s (l - 1) (m / branching s.scheme))) own
+    ∙ ap (λ k. node_raw_bit s.scheme s.tiles l m && not (k && node_raw_bit s.scheme s.tiles (l - 1) (m / branching s.scheme))) above
 
 pub orphan_in : (s : Subtree) (k l m : ℕ) → IsKeptCount s k → 1 ≤ l → l < k → m < branching s.scheme ^ l → raw_orphan s.scheme s.tiles l m ≡ true → has_orphan s ≡ true
 orphan_in s k l m count one low within is =
@@ -71,7 +71,7 @@ no_orphan s k count none =
     elim (cases_lt l k) [
       | inl low ↦ orphan_kept s l m (kept_true s k l count low) (kept_true s k (l - 1) count (omega arith)) ∙ none l m one low within
       | inr past ↦ and_left (has_tile s l m) (not (has_tile s (l - 1) (m / branching s.scheme)))
-          (and_left (is_kept s l) (raw_bit s.scheme s.tiles l m) (kept_false s k l count (omega arith) past))
+          (and_left (is_kept s l) (node_raw_bit s.scheme s.tiles l m) (kept_false s k l count (omega arith) past))
     ])
 
 -- a content whose bit stands alone at a kept place
@@ -161,8 +161,8 @@ full_has_no_orphan s t k n r same is count n_is ones full =
     sym (subst (λ u. has_orphan u ≡ false) same
     (no_orphan s k own (λ l m one low within.
     let above : l - 1 < k = omega arith in
-    and_right (raw_bit s.scheme s.tiles l m) (not (raw_bit s.scheme s.tiles (l - 1) (m / branching s.scheme)))
-    (not_from_true (raw_bit s.scheme s.tiles (l - 1) (m / branching s.scheme))
+    and_right (node_raw_bit s.scheme s.tiles l m) (not (node_raw_bit s.scheme s.tiles (l - 1) (m / branching s.scheme)))
+    (not_from_true (node_raw_bit s.scheme s.tiles (l - 1) (m / branching s.scheme))
     (all (nodes_above s.scheme (l - 1) + m / branching s.scheme)
     (subst (λ a. nodes_above s.scheme (l - 1) + m / branching s.scheme < a) (sym n_is)
     (place_below s.scheme (l - 1) k (m / branching s.scheme) above (parent_within s.scheme l m (m / branching s.scheme) one within refl))))))))

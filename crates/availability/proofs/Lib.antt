@@ -1,6 +1,3 @@
-pub mod Levels
-pub mod Parts
-pub mod Tiles
 pub mod Places
 pub mod Orphans
 pub mod Repeats

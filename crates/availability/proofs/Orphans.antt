@@ -13,7 +13,7 @@ use Rattle.implicit_tiling.specs.Bits.{bit_at}
 use Rattle.bitstream.specs.Words.{IsWordFrom}
 use Rattle.bitstream.proofs.Apart.{lowest_of, no_digit}
 use Rattle.bitstream.proofs.Front.{digit_of_low, digit_past_low}
-use Rattle.availability.specs.Rules.{raw_bit, raw_orphan, RepeatsBits}
+use Rattle.availability.specs.Rules.{node_raw_bit, raw_orphan, RepeatsBits}
 
 two_to_axes : (scheme : Scheme) → 2 ^ axes scheme ≡ branching scheme
 two_to_axes Quad = refl
@@ -58,12 +58,12 @@ orphan_digit : (scheme : Scheme) (bits : List Bool) (l w nodes parents each j : 
 orphan_digit scheme bits l w nodes parents each j are h =
     let m = 64 * w + j in
     let own_place : nodes_above scheme l + 64 * w + j ≡ nodes_above scheme l + m = omega arith in
-    let own : raw_bit scheme bits l m ≡ eqb (digit_at nodes j) 1 = sym (are.own.digits j h ∙ ap (bit_at bits) own_place) in
+    let own : node_raw_bit scheme bits l m ≡ eqb (digit_at nodes j) 1 = sym (are.own.digits j h ∙ ap (bit_at bits) own_place) in
     let above_place : nodes_above scheme (l - 1) + 64 * w / branching scheme + j / branching scheme ≡ nodes_above scheme (l - 1) + m / branching scheme =
     omega (arith, parents_of_word scheme w j) in
-    let above : raw_bit scheme bits (l - 1) (m / branching scheme) ≡ eqb (digit_at each j) 1 =
+    let above : node_raw_bit scheme bits (l - 1) (m / branching scheme) ≡ eqb (digit_at each j) 1 =
     sym (ap (λ d. eqb d 1) (are.repeats j h) ∙ are.above.digits (j / branching scheme) (few_parents scheme j h) ∙ ap (bit_at bits) above_place) in
-    ap (λ b. b && not (raw_bit scheme bits (l - 1) (m / branching scheme))) own
+    ap (λ b. b && not (node_raw_bit scheme bits (l - 1) (m / branching scheme))) own
     ∙ ap (λ b. eqb (digit_at nodes j) 1 && not b) above
     ∙ digit_alone (digit_at nodes j) (digit_at each j) (bit_at-lt nodes j) (bit_at-lt each j)
     ∙ ap (λ d. eqb d 1) (sym (bit_at_and nodes (bit_not w64 each) j ∙ ap (λ d. min (digit_at nodes j) d) (bit_at_not w64 each j are.fits h)))

@@ -9,7 +9,7 @@ use Rattle.implicit_tiling.specs.Tile.{branching}
 use Rattle.implicit_tiling.specs.Availability.{nodes_above}
 use Rattle.implicit_tiling.specs.Subtree.{Subtree, IsSubtree}
 use Rattle.tiling_laws.proofs.Nodes.{none_above, level_more, nodes_times_rest}
-use Rattle.availability.proofs.Levels.{indices_fit}
+use Rattle.tile_word.proofs.Levels.{indices_fit}
 
 rise_by : (scheme : Scheme) (l k : ℕ) → nodes_above scheme l ≤ nodes_above scheme (l + k)
 rise_by scheme l zero = omega (arith, ap (nodes_above scheme) (add-zero l))

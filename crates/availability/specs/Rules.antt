@@ -30,11 +30,11 @@ pub record IsKeptCount (s : Subtree) (kept : ℕ) : Type 0 where
   pub high : kept < s.levels → s.cut ≤ s.root.level + kept
 
 -- the raw bit of a node, and of its parent
-abbrev pub raw_bit : Scheme → List Bool → ℕ → ℕ → Bool
-raw_bit scheme bits l m = bit_at bits (nodes_above scheme l + m)
+abbrev pub node_raw_bit : Scheme → List Bool → ℕ → ℕ → Bool
+node_raw_bit scheme bits l m = bit_at bits (nodes_above scheme l + m)
 
 abbrev pub raw_orphan : Scheme → List Bool → ℕ → ℕ → Bool
-raw_orphan scheme bits l m = raw_bit scheme bits l m && not (raw_bit scheme bits (l - 1) (m / branching scheme))
+raw_orphan scheme bits l m = node_raw_bit scheme bits l m && not (node_raw_bit scheme bits (l - 1) (m / branching scheme))
 
 -- whether some node of the level is one without its parent
 abbrev pub HasOrphanAt : Scheme → List Bool → ℕ → Bool → Type 0

@@ -1,19 +1,10 @@
-// How many nodes a level has, and the levels above it.
-ghost use Rattle.std.specs.Prelude.{◌≡◌, ◌≤◌, ◌^◌};
-ghost use Rattle.implicit_tiling.specs.Limits.{most_levels, most_subtree_levels};
-ghost use Rattle.implicit_tiling.specs.Tile.{branching};
+// How many nodes stand above a level.
+ghost use Rattle.std.specs.Prelude.{◌≡◌, ◌≤◌};
+ghost use Rattle.implicit_tiling.specs.Limits.{most_subtree_levels};
 ghost use Rattle.implicit_tiling.specs.Availability.{nodes_above as nodes_above_of};
 
 use implicit_tiling::Scheme;
-
-/// How many tiles a level has, N^level.
-#[inline]
-pub fn nodes_at(scheme: Scheme, level: u32) -> u64
-    requires { level ≤ most_levels scheme }
-    ensures { result ≡ branching scheme ^ level }
-{
-    1 << (scheme.axes() * level)
-}
+use tile_word::nodes_at;
 
 /// How many nodes of a subtree stand above a local level: the first bit of that level has this place
 /// (OGC 22-025r4, implicit tiling: availability).

@@ -7,10 +7,11 @@ ghost use Rattle.implicit_tiling.specs.Subtree.{mask_of_bits};
 ghost use Rattle.implicit_tiling.specs.Bits.{bit_at};
 ghost use Rattle.availability.specs.Rules.{HasOrphanAt, RepeatsBits};
 
-use crate::nodes::{nodes_above, nodes_at};
+use crate::nodes::nodes_above;
 use bitstream::{Bits, low_bits};
 use morton::index2;
 use tile_coords::Scheme;
+use tile_word::nodes_at;
 
 // The bits of each content at a place, the first of them lowest.
 pub(crate) fn mask_at(contents: &[Bits], place: u64) -> u8

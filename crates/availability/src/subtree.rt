@@ -5,11 +5,12 @@ ghost use Rattle.implicit_tiling.specs.Subtree.{is_kept as is_kept_of, has_tile,
 ghost use Rattle.bitstream.specs.Bits.{HasNoOne, IsFirstOne};
 ghost use Rattle.availability.specs.Rules.{rule_fault, IsKeptCount};
 
-use crate::nodes::{nodes_above, nodes_at};
+use crate::nodes::nodes_above;
 use crate::rules::{has_orphan_at, mask_at};
 use bitstream::Bits;
 use std::marker::Model;
 use tile_coords::{Scheme, Tile};
+use tile_word::nodes_at;
 
 /// A decoded subtree: the bits that its file names for its nodes, their contents and its child subtrees
 /// (OGC 22-025r4, implicit tiling: subtrees). Bits at levels from the levels in all on count as 0.

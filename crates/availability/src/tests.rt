@@ -1,30 +1,11 @@
-// Worked words, and the rules broken at the first, a middle and the last node of a level.
+// The rules broken at the first, a middle and the last node of a level.
 ghost use Rattle.std.specs.Prelude.{◌≡◌, ◌≤◌, IfOk, length};
 
-use crate::{RuleFault, Subtree, tile_of, word_of};
+use crate::{RuleFault, Subtree};
 use bitstream::Bits;
 use std::alloc::{AllocError, Global};
 use std::test::Fail;
 use tile_coords::{Scheme, Tile};
-
-#[test]
-fn words(rt: HostRuntime) -> Result<(), Fail> {
-    let tile = Tile {
-        level: 1,
-        x: 1,
-        y: 1,
-        z: 0,
-    };
-    let word = word_of(Scheme::Quad, &tile, 1);
-    assert!(rt; word == 578712552117108739);
-    match tile_of(Scheme::Quad, word) {
-        Some(found) => assert!(rt; found.tile == tile && found.mask == 1),
-        None => assert!(rt; false),
-    }
-    assert!(rt; tile_of(Scheme::Quad, 4).is_none());
-    assert!(rt; tile_of(Scheme::Quad, u64::MAX).is_none());
-    Ok(())
-}
 
 // The bits of the 21 nodes of three levels of a quadtree.
 fn nodes(alloc: Global, bits: u32) -> Result<Bits, AllocError>

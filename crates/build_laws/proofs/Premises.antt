@@ -12,7 +12,7 @@ use Rattle.implicit_tiling.specs.Answer.{complete, answer}
 use Rattle.implicit_tileset.specs.Scene.{subtree_name, scene_of}
 use Rattle.walk_laws.specs.Regions.{whole}
 use Rattle.subtree_write.specs.Canonical.{canonical}
-use Rattle.tile_occupancy.specs.Occupied.{IsWordBelow, AreWords, KeysRise, HasParent, HaveParents, tiles_of}
+use Rattle.tile_occupancy.specs.Occupied.{IsWordBelow, AreWordsBelow, KeysRise, HasParent, HaveParents, tiles_of}
 use Rattle.build_laws.specs.Made.{made_subtree, made_roots, made_files}
 use Rattle.build_laws.specs.Holds.{AreWordsOf, HaveMadeFiles}
 use Rattle.build_laws.proofs.Rows.{quad, words, root_word, inner_word, first_word, last_word, inner, first, last}
@@ -35,7 +35,7 @@ last_is : IsWordBelow Quad 3 last_word
 unfolding last_word
 last_is = record { is_word = record { level_fits = lit< tt; index_fits = lit< tt }; low = lit< tt }
 
-are_words : AreWords Quad 3 words
+are_words : AreWordsBelow Quad 3 words
 unfolding words
 are_words = All-from_recursion (IsWordBelow Quad 3) (root_word ∷ inner_word ∷ first_word ∷ last_word ∷ []) (root_is, (inner_is, (first_is, (last_is, tt))))
 

@@ -15,7 +15,7 @@ use Rattle.tiling_laws.proofs.Subtrees.{ancestor_none}
 use Rattle.tiling_laws.proofs.Available.{top_is_root}
 use Rattle.tiling_laws.proofs.Rising.{none_in_nil, contains_first, contains_cases, in_filtered}
 use Rattle.walk_laws.proofs.Segments.{local_low, at_start}
-use Rattle.tile_occupancy.specs.Occupied.{IsWordBelow, AreWords, is_same, tiles_of, HasParent, IsOccupancy}
+use Rattle.tile_occupancy.specs.Occupied.{IsWordBelow, AreWordsBelow, is_same, tiles_of, HasParent, IsOccupancy}
 use Rattle.tile_occupancy.proofs.Parents.{only_root}
 use Rattle.build_laws.specs.Made.{made_roots}
 use Rattle.build_laws.proofs.Bits.{from_map}
@@ -42,7 +42,7 @@ is_tile scheme words t there =
     let one = from_map (word_tile scheme) words t there in
     subst (IsTile scheme) one.gives (tile_at_is_tile scheme (word_level one.element) (word_index one.element))
 
-pub is_low : (scheme : Scheme) (levels : ℕ) (words : List ℕ) (t : Tile) → AreWords scheme levels words → Contains (tiles_of scheme words) t → t.level < levels
+pub is_low : (scheme : Scheme) (levels : ℕ) (words : List ℕ) (t : Tile) → AreWordsBelow scheme levels words → Contains (tiles_of scheme words) t → t.level < levels
 is_low scheme levels words t are there =
     let one = from_map (word_tile scheme) words t there in
     let low = (All-contains (IsWordBelow scheme levels) words one.element are one.there).low in
@@ -93,7 +93,7 @@ subtree_is_made layout words t some whole there =
     (ancestor_there layout.scheme layout.levels words (local_level layout t) t whole there (local_low t.level layout.subtree_levels)) (root_starts layout t some)
 
 -- each is a tile of the layout with which a subtree may begin
-pub made_is : (layout : Layout) (words : List ℕ) (r : Tile) → 1 ≤ layout.levels → AreWords layout.scheme layout.levels words → Contains (made_roots layout words) r → IsRootOf layout r
+pub made_is : (layout : Layout) (words : List ℕ) (r : Tile) → 1 ≤ layout.levels → AreWordsBelow layout.scheme layout.levels words → Contains (made_roots layout words) r → IsRootOf layout r
 made_is layout [] r some are there =
     elim (contains_cases root [] r there) [
       | inl same ↦ subst (IsRootOf layout) same (record { is_tile = tile_at_is_tile layout.scheme 0 0; within = omega (arith, some); at_start = top_is_root layout root refl })

@@ -35,8 +35,8 @@ use Rattle.request_text.proofs.Words.{words_make_the_text}
 use Rattle.commands.specs.declared.status.Status.{Status}
 use Rattle.commands.specs.declared.status.Status.TheVariants.{Done, Faulted, Usage, BadLayout, ReadFault, WriteFault, InputFault, Memory, InputLong}
 use Rattle.commands.specs.Replies.{Reply, end_status, walk_status, found_status, plan_reply, line_reply, check_reply, layout_in, reply_over, reply_in, reply_wanted, puts_files, Agrees, IsGiven, IsBegun, Replies}
-use Rattle.tile_walk.specs.Plans.{FitsLayout}
-use Rattle.tile_walk.specs.Walks.{IsAnswer}
+use Rattle.walk_laws.specs.Plans.{FitsLayout}
+use Rattle.tile_word.specs.Answers.{IsAnswer}
 use Rattle.implicit_tiling.specs.Code.{tile_word}
 use Rattle.tile_walk.specs.Checks.{IsCheck}
 

@@ -5,7 +5,7 @@ ghost use Rattle.implicit_tiling.specs.Text.{refused_text};
 ghost use Rattle.implicit_tileset.specs.Scene.{scene_of};
 ghost use Rattle.scene_ports.specs.Counts.{Rose};
 ghost use Rattle.commands.specs.Replies.{Replies, IsBeforeWriting, reply_in, line_reply, plan_reply, walk_status};
-ghost use Rattle.tile_walk.specs.Plans.{FitsLayout};
+ghost use Rattle.walk_laws.specs.Plans.{FitsLayout};
 
 use crate::layout::fetch_layout;
 use crate::status::Status;
@@ -13,8 +13,8 @@ use framed_walk::framed;
 use request_text::{parse_line, write_answer, write_refusal};
 use scene_ports::{FileSource, GiveFault, Outlet};
 use std::alloc::Global;
+use subtree_outcome::WalkStop;
 use tile_coords::{Plan, WalkEnd};
-use tile_walk::WalkStop;
 use tileset_json::Layout;
 
 /// The frames that hold decoded subtrees while an answer is walked.

@@ -10,7 +10,8 @@ use crate::status::Status;
 use request_text::write_check;
 use scene_ports::{FileSource, GiveFault, Outlet};
 use std::alloc::Global;
-use tile_walk::{WalkStop, check_all};
+use subtree_outcome::WalkStop;
+use tile_walk::check_all;
 use tileset_json::Layout;
 
 /// Gives the faults of all subtree files that are reached from the layout of the files.

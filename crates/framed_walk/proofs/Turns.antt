@@ -13,8 +13,9 @@ use Rattle.frame_pool.specs.Frames.{Frames, EachFrame, IsLoadingAt, empty_frames
 use Rattle.frame_pool.specs.Moves.{IsAskAnswer, after_ask, after_settle, after_unpin, pinned, unpinned, settled}
 use Rattle.frame_pool.proofs.Places.{at-set, get-set_same, get-set_other}
 use Rattle.frame_pool.proofs.Pools.{changed-at}
-use Rattle.tile_walk.specs.declared.outcome.Outcome.{Outcome}
-use Rattle.framed_walk.specs.Frames.{IsOutcomeOf, IsIdle, AreAtRest, IsHeld}
+use Rattle.subtree_outcome.specs.declared.outcome.Outcome.{Outcome}
+use Rattle.subtree_outcome.specs.Outcomes.{IsOutcomeOf}
+use Rattle.framed_walk.specs.Frames.{IsIdle, AreAtRest, IsHeld}
 
 abbrev no_key : FrameState ℕ
 no_key = Empty

@@ -1,19 +1,12 @@
--- Frames of the outcomes of subtree roots, by the roots' words (this project's own).
-use Rattle.std.specs.Prelude.{ℕ, ◌≡◌, ◌≢◌, ◌≤◌, length, Option, Some, IfSome, slice_get}
+-- For proofs and inner functions: frames of the outcomes of subtree roots, by the roots' words (this project's own).
+use Rattle.std.specs.Prelude.{ℕ, ◌≡◌, ◌≢◌, ◌≤◌, length, Option, Some, slice_get}
 use Rattle.implicit_tiling.specs.Files.{Files}
 use Rattle.implicit_tiling.specs.Scene.{Layout}
-use Rattle.implicit_tiling.specs.Code.{word_tile}
-use Rattle.implicit_tileset.specs.Scene.{scene_of}
 use Rattle.frame_pool.specs.declared.frame.FrameState.{FrameState}
 use Rattle.frame_pool.specs.declared.frame.FrameState.TheVariants.{Empty, Loading, Ready}
 use Rattle.frame_pool.specs.Frames.{Frames, EachFrame}
-use Rattle.tile_walk.specs.declared.outcome.Outcome.{Outcome}
-use Rattle.tile_walk.specs.Outcomes.{IsOutcomeAt, outcome_seen}
-
--- what is read for a key from any source; and of files that are told, the outcome of the scene
-pub record IsOutcomeOf (layout : Layout) (told : Option Files) (key : ℕ) (found : Outcome) : Type 0 where
-  pub read : IsOutcomeAt layout (word_tile layout.scheme key) found
-  pub of_scene : IfSome told (λ all. (scene_of all layout).outcome (word_tile layout.scheme key) ≡ outcome_seen found)
+use Rattle.subtree_outcome.specs.declared.outcome.Outcome.{Outcome}
+use Rattle.subtree_outcome.specs.Outcomes.{IsOutcomeOf}
 
 -- a frame that nobody uses
 abbrev pub IsIdle : FrameState ℕ → Type 0

@@ -2,14 +2,15 @@
 ghost use Rattle.std.specs.Prelude.{◌≡◌, ◌≤◌, IfOk, IfErr, Err};
 ghost use Rattle.implicit_tiling.specs.Code.{word_level};
 ghost use Rattle.scene_ports.specs.Counts.{Rose};
-ghost use Rattle.tile_walk.specs.Roots.{IsRootWord};
-ghost use Rattle.framed_walk.specs.Frames.{IsOutcomeOf, AreAtRest, IsHeld};
+ghost use Rattle.tile_word.specs.Roots.{IsRootWord};
+ghost use Rattle.subtree_outcome.specs.Outcomes.{IsOutcomeOf};
+ghost use Rattle.framed_walk.specs.Frames.{AreAtRest, IsHeld};
 
 use frame_pool::{Asked, Pool};
 use scene_ports::FileSource;
 use std::alloc::Global;
+use subtree_outcome::{Outcome, WalkStop, read_subtree, root_tile};
 use tile_coords::Word;
-use tile_walk::{Outcome, WalkStop, read_subtree, root_tile};
 use tileset_json::Layout;
 
 // The frame with the outcome of a key, which has one pin until the turn ends. The outcome is read where no frame holds it.

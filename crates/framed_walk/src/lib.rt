@@ -6,8 +6,3 @@ mod frames;
 mod walk;
 
 pub use walk::framed;
-
-#[cfg(test)]
-mod tests;
-#[cfg(test)]
-mod worked_walks;

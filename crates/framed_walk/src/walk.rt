@@ -6,8 +6,8 @@ ghost use Rattle.tile_coords.specs.Ends.{EndsAtRoot};
 ghost use Rattle.region_cursor.specs.Cursor.{IsWalkOf};
 ghost use Rattle.region_cursor.specs.Moves.{begun};
 ghost use Rattle.region_cursor.specs.Walked.{IsAt};
-ghost use Rattle.tile_walk.specs.Plans.{FitsLayout, IsRegionOf};
-ghost use Rattle.tile_walk.specs.Walks.{AreFound, IsAnswer};
+ghost use Rattle.walk_laws.specs.Plans.{FitsLayout, IsRegionOf};
+ghost use Rattle.tile_word.specs.Answers.{AreFound, IsAnswer};
 ghost use Rattle.framed_walk.specs.Frames.{AreAtRest};
 
 use crate::frames::hold;
@@ -15,8 +15,8 @@ use frame_pool::Pool;
 use region_cursor::CursorState;
 use scene_ports::FileSource;
 use std::alloc::Global;
+use subtree_outcome::{Outcome, WalkStop};
 use tile_coords::{Plan, WalkEnd, Word};
-use tile_walk::{Outcome, WalkStop};
 use tileset_json::Layout;
 
 /// The answer for a plan that fits the layout, over this many frames (1 to 1,024): `words` becomes the words of its tiles in

@@ -8,12 +8,12 @@ use Rattle.implicit_tiling.specs.Region.{Region}
 use Rattle.implicit_tiling.specs.Scene.{Layout}
 use Rattle.implicit_tiling.specs.Subtree.{Subtree, IsOf}
 use Rattle.implicit_tiling.specs.Code.{word, word_tile}
-use Rattle.availability.proofs.Tiles.{parts_have_their_word, word_tile_level, word_tile_is_tile}
-use Rattle.region_cursor.specs.Cursor.{Cursor, IsWalkOf, IsSameWalk, IsRootKey, FitsSubtree, Fits, key_of, next_root, root_level_of, HasNoOrphan}
+use Rattle.tile_word.proofs.Tiles.{parts_have_their_word, word_tile_level, word_tile_is_tile}
+use Rattle.region_cursor.specs.Cursor.{Cursor, IsWalkOf, IsSameWalk, IsRootKey, FitsSubtree, Fits, cursor_key, next_root, root_level_of, HasNoOrphan}
 use Rattle.implicit_tiling.specs.Availability.{local_level, IsRootOf}
-use Rattle.tile_walk.specs.Outcomes.{IsOutcomeAt}
-use Rattle.tile_walk.specs.declared.outcome.Outcome.{Outcome}
-use Rattle.tile_walk.specs.declared.outcome.Outcome.TheVariants.{Good, Bad}
+use Rattle.subtree_outcome.specs.Outcomes.{IsOutcomeAt}
+use Rattle.subtree_outcome.specs.declared.outcome.Outcome.{Outcome}
+use Rattle.subtree_outcome.specs.declared.outcome.Outcome.TheVariants.{Good, Bad}
 
 -- a walk stays one of its layout
 pub walk_stays : (layout : Layout) (region : Region) (old new : Cursor) → IsWalkOf layout region old → IsSameWalk old new → IsWalkOf layout region new
@@ -28,11 +28,11 @@ walk_stays layout region old new is same = record {
 }
 
 -- the tile of the next key is the next root
-pub next_root_of_key : (c : Cursor) (key : ℕ) → key_of c ≡ Some key → next_root c ≡ word_tile c.scheme key
+pub next_root_of_key : (c : Cursor) (key : ℕ) → cursor_key c ≡ Some key → next_root c ≡ word_tile c.scheme key
 next_root_of_key c key at = ap (word_tile c.scheme) (get_or_from_slice_get c.roots c.position key 0 at)
 
 -- a subtree of the layout that begins with the next root fits the step
-subtree_fits : (layout : Layout) (region : Region) (c : Cursor) (key : ℕ) (st : Subtree) → IsWalkOf layout region c → key_of c ≡ Some key → IsRootKey c key
+subtree_fits : (layout : Layout) (region : Region) (c : Cursor) (key : ℕ) (st : Subtree) → IsWalkOf layout region c → cursor_key c ≡ Some key → IsRootKey c key
     → IsOf layout st → st.root ≡ word_tile c.scheme key → FitsSubtree c st
 subtree_fits layout region c key st is at root of begins =
     let scheme = of.same_scheme ∙ sym is.same_scheme in
@@ -49,7 +49,7 @@ subtree_fits layout region c key st is at root of begins =
     }
 
 -- and so does what is read of any source
-pub outcome_fits : (layout : Layout) (region : Region) (c : Cursor) (key : ℕ) (found : Outcome) → IsWalkOf layout region c → key_of c ≡ Some key → IsRootKey c key
+pub outcome_fits : (layout : Layout) (region : Region) (c : Cursor) (key : ℕ) (found : Outcome) → IsWalkOf layout region c → cursor_key c ≡ Some key → IsRootKey c key
     → IsOutcomeAt layout (word_tile layout.scheme key) found → Fits c found
 outcome_fits layout region c key (Good st) is at root found =
     subtree_fits layout region c key st is at root found.of_layout (found.at_root ∙ ap (λ (e : Scheme). word_tile e key) (sym is.same_scheme))

@@ -6,4 +6,5 @@ pub mod Walked
 pub mod Results
 pub mod Rows
 pub mod Callers
+pub mod Joined
 pub mod Tried

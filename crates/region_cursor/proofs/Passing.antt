@@ -18,8 +18,8 @@ use Rattle.walk_laws.specs.Pairs.{level_pairs, pairs_above, NoPairFaults, tiles_
 use Rattle.walk_laws.proofs.Segments.{at_start, local_low}
 use Rattle.walk_laws.proofs.Children.{roots_go_down, next_level as next_start}
 use Rattle.walk_laws.proofs.Pairs.{pairs_go_down, pairs_above_come_first, pairs_end, roots_of_inner_levels}
-use Rattle.region_cursor.specs.Cursor.{Cursor, IsWalkOf, key_of, is_last_local}
-use Rattle.region_cursor.specs.Moves.{over, level_after, pair_after, passed, end_by_key}
+use Rattle.region_cursor.specs.Cursor.{Cursor, IsWalkOf, cursor_key, is_last_local}
+use Rattle.region_cursor.specs.Moves.{over, level_after, pair_after, moved_on, end_by_key}
 use Rattle.region_cursor.specs.Walked.{root_word, pairs_done, found_below, IsUnderWay, IsAtBy, IsAt}
 use Rattle.region_cursor.proofs.Places.{row, rest_here, later}
 
@@ -72,16 +72,16 @@ begins_below l n some last =
 -- what is to be shown of the state after a step: where it stands, and that its end is that of the pairs that follow
 pub record Stands (s : Scene) (region : Region) (k : ℕ) (rest : List Pair) (c : Cursor) : Type 0 where
   pub at : IsAt s region k c
-  pub end : end_seen s.layout.scheme (end_by_key (key_of c)) ≡ last_or_not rest
+  pub end : end_seen s.layout.scheme (end_by_key (cursor_key c)) ≡ last_or_not rest
 
-stands_with : (s : Scene) (region : Region) (k : ℕ) (rest : List Pair) (c : Cursor) (key : ℕ) → key_of c ≡ Some key → IsUnderWay s region k c → partial ≡ last_or_not rest
+stands_with : (s : Scene) (region : Region) (k : ℕ) (rest : List Pair) (c : Cursor) (key : ℕ) → cursor_key c ≡ Some key → IsUnderWay s region k c → partial ≡ last_or_not rest
     → Stands s region k rest c
 stands_with s region k rest c key at on more = record {
   at = subst (λ o. IsAtBy o s region k c) (sym at) on;
   end = ap (λ o. end_seen s.layout.scheme (end_by_key o)) at ∙ more;
 }
 
-stands_without : (s : Scene) (region : Region) (k : ℕ) (rest : List Pair) (c : Cursor) → key_of c ≡ None → k ≡ length (steps s region) → rest ≡ []
+stands_without : (s : Scene) (region : Region) (k : ℕ) (rest : List Pair) (c : Cursor) → cursor_key c ≡ None → k ≡ length (steps s region) → rest ≡ []
     → Stands s region k rest c
 stands_without s region k rest c at all none = record {
   at = subst (λ o. IsAtBy o s region k c) (sym at) all;
@@ -89,7 +89,7 @@ stands_without s region k rest c at all none = record {
 }
 
 -- the key of a state at the first of some roots
-first_key : (s : Scene) (c : Cursor) (roots : List Tile) → c.position ≡ 0 → c.roots ≡ map (root_word s) roots → 0 < length roots → (key : ℕ) × (key_of c ≡ Some key)
+first_key : (s : Scene) (c : Cursor) (roots : List Tile) → c.position ≡ 0 → c.roots ≡ map (root_word s) roots → 0 < length roots → (key : ℕ) × (cursor_key c ≡ Some key)
 first_key s c roots first are some =
     let there : 0 < length c.roots = omega (arith, ap length are, length-map roots (root_word s), some) in
     (get_or c.roots 0 0, ap (slice_get c.roots) first ∙ slice_get-get_or c.roots 0 0 there)
@@ -221,7 +221,7 @@ below_of s region k c is d low ends roots [] are =
     let e : Cursor = record c { level = c.level + 1; position = 0; roots = c.next_roots; next_roots = [] } in
     let begins = begins_below c.level s.layout.subtree_levels d.of_scene.some_levels ends in
     let none = d.rest ∙ none_follow s region c.level d.of_scene.some_levels low begins are in
-    let key : key_of e ≡ None = ap (λ w. slice_get w 0) (roots ∙ ap (map (root_word s)) are) in
+    let key : cursor_key e ≡ None = ap (λ w. slice_get w 0) (roots ∙ ap (map (root_word s)) are) in
     stands_without s region k (rest_here s region c) e key (is.ends none) none
 below_of s region k c is d low ends roots (x ∷ xs) are =
     let e : Cursor = record c { level = c.level + 1; position = 0; roots = c.next_roots; next_roots = [] } in
@@ -258,5 +258,5 @@ to_next_pair s region k c is false more =
     to_next_level s region k c is d (c.level == c.region.level) (is_last_local c) (ap (λ (r : Region). c.level == r.level) (sym d.of_scene.same_region)) refl
 
 -- from a pair that is done and counted to the next one
-pub to_next : (s : Scene) (region : Region) (k : ℕ) (c : Cursor) → Counted s region k c → Stands s region k (rest_here s region c) (passed c)
+pub to_next : (s : Scene) (region : Region) (k : ℕ) (c : Cursor) → Counted s region k c → Stands s region k (rest_here s region c) (moved_on c)
 to_next s region k c is = to_next_pair s region k c is (nat_lt (c.position + 1) (length c.roots)) refl

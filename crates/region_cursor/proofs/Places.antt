@@ -14,7 +14,7 @@ use Rattle.walk_laws.specs.Pairs.{level_pairs, pairs_above, tiles_of_pairs, step
 use Rattle.walk_laws.proofs.PairLevels.{pairs_at_a_root}
 use Rattle.walk_laws.proofs.PairAnswers.{steps_follow_the_pairs}
 use Rattle.walk_laws.proofs.WalkRoots.{roots_are_on_the_walk}
-use Rattle.region_cursor.specs.Cursor.{Cursor, key_of}
+use Rattle.region_cursor.specs.Cursor.{Cursor, cursor_key}
 use Rattle.region_cursor.specs.Walked.{root_word, pairs_done, IsUnderWay, IsAtBy, IsAt, IsNextKey}
 use Rattle.region_cursor.proofs.Lists.{split_at, get_at, length_at}
 
@@ -54,19 +54,19 @@ done_more s region c h =
     ∙ sym (append_assoc above (map (pair_of c.level) first) (pair_here s region c ∷ []))
 
 -- where there is a key, the place is among the roots
-pub place_of_key : (s : Scene) (region : Region) (k : ℕ) (c : Cursor) (key : ℕ) → IsUnderWay s region k c → key_of c ≡ Some key → c.position < length (row s region c)
+pub place_of_key : (s : Scene) (region : Region) (k : ℕ) (c : Cursor) (key : ℕ) → IsUnderWay s region k c → cursor_key c ≡ Some key → c.position < length (row s region c)
 place_of_key s region k c key on at =
     omega (arith, slice_get_within c.roots c.position key at, ap length on.roots, length-map (row s region c) (root_word s))
 
 pub key_here : (s : Scene) (region : Region) (k : ℕ) (c : Cursor) → IsUnderWay s region k c → c.position < length (row s region c)
-    → key_of c ≡ Some (root_word s (root_here s region c))
+    → cursor_key c ≡ Some (root_word s (root_here s region c))
 key_here s region k c on h =
     let there : c.position < length (map (root_word s) (row s region c)) = omega (arith, h, length-map (row s region c) (root_word s)) in
     ap (λ w. slice_get w c.position) on.roots
     ∙ slice_get-get_or (map (root_word s) (row s region c)) c.position 0 there
     ∙ ap {B = Option ℕ} (λ w. Some w) (get_or-map (root_word s) (row s region c) c.position root 0 h)
 
-pub is_under_way : (s : Scene) (region : Region) (k : ℕ) (c : Cursor) (key : ℕ) → IsAt s region k c → key_of c ≡ Some key → IsUnderWay s region k c
+pub is_under_way : (s : Scene) (region : Region) (k : ℕ) (c : Cursor) (key : ℕ) → IsAt s region k c → cursor_key c ≡ Some key → IsUnderWay s region k c
 is_under_way s region k c key is at = subst (λ o. IsAtBy o s region k c) at is
 
 -- the steps from here on
@@ -98,7 +98,7 @@ some_step r (Some n') cut n tiles end rest = (_, ([], refl))
 some_step r None true n tiles end rest = (_, ([], refl))
 some_step r None false n tiles end rest = (_, (rest, refl))
 
-key_is_next : (s : Scene) (region : Region) (k : ℕ) (c : Cursor) (key : ℕ) → key_of c ≡ Some key → IsUnderWay s region k c → IsNextKey s region k (Some key)
+key_is_next : (s : Scene) (region : Region) (k : ℕ) (c : Cursor) (key : ℕ) → cursor_key c ≡ Some key → IsUnderWay s region k c → IsNextKey s region k (Some key)
 key_is_next s region k c key at on =
     let h = place_of_key s region k c key on at in
     let p = pair_here s region c in
@@ -111,12 +111,12 @@ key_is_next s region k c key at on =
     let P : Option Pair → Type 0 = λ o. IsSomeAnd o (λ q. key ≡ root_word s q.root) in
     (omega (arith, is.count), subst P (sym there) same)
 
-next_key_by : (s : Scene) (region : Region) (k : ℕ) (c : Cursor) (found : Option ℕ) → key_of c ≡ found → IsAtBy found s region k c → IsNextKey s region k found
+next_key_by : (s : Scene) (region : Region) (k : ℕ) (c : Cursor) (found : Option ℕ) → cursor_key c ≡ found → IsAtBy found s region k c → IsNextKey s region k found
 next_key_by s region k c None at is = is
 next_key_by s region k c (Some key) at is = key_is_next s region k c key at is
 
-pub next_key_is : (s : Scene) (region : Region) (k : ℕ) (c : Cursor) → IsAt s region k c → IsNextKey s region k (key_of c)
-next_key_is s region k c is = next_key_by s region k c (key_of c) refl is
+pub next_key_is : (s : Scene) (region : Region) (k : ℕ) (c : Cursor) → IsAt s region k c → IsNextKey s region k (cursor_key c)
+next_key_is s region k c is = next_key_by s region k c (cursor_key c) refl is
 
 -- the root of the next step is on the walk, and its word is the key's
 pub root_is_on_walk : (s : Scene) (region : Region) (c : Cursor) → c.position < length (row s region c) → IsWalkRoot s region c.level (root_here s region c)

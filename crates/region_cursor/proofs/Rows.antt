@@ -12,8 +12,8 @@ use Rattle.implicit_tiling.specs.Subtree.{Subtree, IsSubtree}
 use Rattle.implicit_tiling.specs.Code.{word}
 use Rattle.implicit_tiling.specs.Nodes.{child_words}
 use Rattle.walk_laws.proofs.Segments.{at_start, local_low, local_of}
-use Rattle.availability.proofs.Tiles.{level_of_word}
-use Rattle.region_cursor.specs.Cursor.{Cursor, IsCursor, IsRootAt, IsRootKey, FitsSubtree, is_last_local, root_level_of, key_of}
+use Rattle.tile_word.proofs.Tiles.{level_of_word}
+use Rattle.region_cursor.specs.Cursor.{Cursor, IsCursor, IsRootAt, IsRootKey, FitsSubtree, is_last_local, root_level_of, cursor_key}
 use Rattle.region_cursor.proofs.Words.{child_words_are_words}
 use Rattle.region_cursor.proofs.Passing.{begins_below}
 
@@ -32,7 +32,7 @@ pub roots_at : (scheme : Scheme) (roots : List ℕ) (l m : ℕ) → l ≡ m → 
 roots_at scheme roots l m same are = subst (λ n. All (IsRootAt scheme n) roots) same are
 
 -- the root of the next step
-pub key_is_root : (c : Cursor) (key : ℕ) → IsCursor c → key_of c ≡ Some key → IsRootKey c key
+pub key_is_root : (c : Cursor) (key : ℕ) → IsCursor c → cursor_key c ≡ Some key → IsRootKey c key
 key_is_root c key is at =
     let h = slice_get_within c.roots c.position key at in
     record {
@@ -52,7 +52,7 @@ children_are_next c st region is fits limits =
     subst (λ (e : Scheme). All (IsRootAt e (root_level_of c + c.subtree_levels)) (child_words st region)) fits.same_scheme
     (roots_at st.scheme (child_words st region) (st.root.level + st.levels) (root_level_of c + c.subtree_levels) level (child_words_are_words st region limits))
 
-pub found_is_root : (c : Cursor) (found : Option ℕ) → found ≡ key_of c → IsCursor c → IfSome found (IsRootKey c)
+pub found_is_root : (c : Cursor) (found : Option ℕ) → found ≡ cursor_key c → IsCursor c → IfSome found (IsRootKey c)
 found_is_root c None same is = tt
 found_is_root c (Some key) same is = key_is_root c key is (sym same)
 

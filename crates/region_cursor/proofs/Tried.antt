@@ -7,7 +7,7 @@ use Rattle.implicit_tiling.specs.Checks.{refuse}
 use Rattle.implicit_tiling.specs.Tile.{depth_of}
 use Rattle.implicit_tiling.specs.Region.{Region, some_axis, region_of}
 use Rattle.implicit_tiling.specs.Scene.{Layout}
-use Rattle.tile_walk.specs.Plans.{FitsLayout}
+use Rattle.walk_laws.specs.Plans.{FitsLayout}
 
 not_refused : (n : ℕ) (test : Bool) (rest : Result Region ℕ) (r : Region) → refuse n test rest ≡ Ok r → rest ≡ Ok r
 not_refused n true rest r is = cc

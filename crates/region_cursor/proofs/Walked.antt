@@ -22,8 +22,8 @@ use Rattle.implicit_tiling.specs.Steps.{pair_of, walk_roots, segment, pair_fault
 use Rattle.tile_coords.specs.Ends.{end_seen}
 use Rattle.tile_coords.specs.declared.walk_end.WalkEnd.{WalkEnd}
 use Rattle.tile_coords.specs.declared.walk_end.WalkEnd.TheVariants.{TooMany, Fault}
-use Rattle.availability.specs.Words.{HasWord}
-use Rattle.availability.proofs.Tiles.{tile_of_word}
+use Rattle.tile_word.specs.Words.{HasWord}
+use Rattle.tile_word.proofs.Tiles.{tile_of_word}
 use Rattle.walk_laws.specs.Regions.{IsRegion}
 use Rattle.walk_laws.specs.Children.{roots_below}
 use Rattle.walk_laws.specs.Decoded.{IsDecoded}
@@ -33,12 +33,12 @@ use Rattle.walk_laws.proofs.Decoded.{node_words}
 use Rattle.walk_laws.proofs.Regions.{roots_begin_at_the_root, accepted_is_a_region}
 use Rattle.walk_laws.proofs.WalkRoots.{child_words_are_root_words}
 use Rattle.walk_laws.proofs.Pairs.{pairs_more, pairs_go_down, roots_of_inner_levels, fault_at_own_level, no_fault_of_good}
-use Rattle.tile_walk.specs.declared.outcome.Outcome.{Outcome}
-use Rattle.tile_walk.specs.declared.outcome.Outcome.TheVariants.{Good, Bad}
-use Rattle.region_cursor.specs.Cursor.{Cursor, local_level_of, is_last_local, key_of, next_root, FitsSubtree, Fits, HasNoOrphan}
-use Rattle.tile_walk.specs.Plans.{FitsLayout}
-use Rattle.region_cursor.specs.Moves.{begun, over, passed, end_by_key, Made, went_on, children_if, with_children, counted, room, made_by, made_good, made_bad, made}
-use Rattle.tile_walk.specs.Outcomes.{outcome_seen}
+use Rattle.subtree_outcome.specs.declared.outcome.Outcome.{Outcome}
+use Rattle.subtree_outcome.specs.declared.outcome.Outcome.TheVariants.{Good, Bad}
+use Rattle.region_cursor.specs.Cursor.{Cursor, local_level_of, is_last_local, cursor_key, next_root, FitsSubtree, Fits, HasNoOrphan}
+use Rattle.walk_laws.specs.Plans.{FitsLayout}
+use Rattle.region_cursor.specs.Moves.{begun, over, moved_on, end_by_key, Made, went_on, children_if, with_children, counted, room, made_by, made_good, made_bad, made}
+use Rattle.subtree_outcome.specs.Outcomes.{outcome_seen}
 use Rattle.region_cursor.specs.Walked.{root_word, pairs_done, found_below, IsUnderWay, IsAt, GivesStep}
 use Rattle.region_cursor.proofs.Places.{row, root_here, pair_here, rest_here, done_here, done_more, place_of_key, key_here, is_under_way, IsStep, step_here, root_is_on_walk}
 use Rattle.region_cursor.proofs.Passing.{nothing_below, Counted, to_next}
@@ -144,7 +144,7 @@ makes_on s region k c words count next_roots on h none tiles few found are =
     let is = step_by s region k c None false x xs on h none (le-ltb most_tiles (c.count + length seg) (omega (arith, tiles, few))) refl in
     let ends : rest ≡ [] → k + 1 ≡ length (steps s region) = λ nothing. omega (arith, is.count, ap (λ w. length (steps_from s region (c.count + length seg) w)) nothing) in
     let stands = to_next s region (k + 1) c2 (counted_here s region k c count next_roots on h none tiles few found ends) in
-    record { given = gives s region k words (end_by_key (key_of (passed c2))) x xs is are stands.end; after = stands.at }
+    record { given = gives s region k words (end_by_key (cursor_key (moved_on c2))) x xs is are stands.end; after = stands.at }
 
 -- the root of the next step is that of its key's word
 root_has_word : (s : Scene) (region : Region) (k : ℕ) (c : Cursor) → IsUnderWay s region k c → c.position < length (row s region c) → HasWord s.layout.scheme (root_here s region c)
@@ -324,7 +324,7 @@ abbrev pub HasLimits : Outcome → Type 0
 HasLimits (Good st) = IsSubtree st
 HasLimits (Bad n) = Unit {0}
 
-makes_by : (s : Scene) (region : Region) (k : ℕ) (c : Cursor) (key : ℕ) (o : Outcome) → IsAt s region k c → key_of c ≡ Some key
+makes_by : (s : Scene) (region : Region) (k : ℕ) (c : Cursor) (key : ℕ) (o : Outcome) → IsAt s region k c → cursor_key c ≡ Some key
     → Fits c o → HasNoOrphan o → HasLimits o → outcome_seen o ≡ s.outcome (next_root c) → MakesStep s region k (made c o)
 makes_by s region k c key (Good st) is at fits whole limits same =
     let on = is_under_way s region k c key is at in
@@ -340,10 +340,10 @@ some_key : (found : Option ℕ) → IsSome found → (key : ℕ) × (found ≡ S
 some_key (Some key) is = (key, refl)
 some_key None is = cc
 
-pub makes_step : (s : Scene) (region : Region) (k : ℕ) (c : Cursor) (o : Outcome) → IsAt s region k c → IsSome (key_of c)
+pub makes_step : (s : Scene) (region : Region) (k : ℕ) (c : Cursor) (o : Outcome) → IsAt s region k c → IsSome (cursor_key c)
     → Fits c o → HasNoOrphan o → HasLimits o → outcome_seen o ≡ s.outcome (next_root c) → MakesStep s region k (made c o)
 makes_step s region k c o is some fits whole limits same =
-    let key = some_key (key_of c) some in
+    let key = some_key (cursor_key c) some in
     makes_by s region k c key.0 o is key.1 fits whole limits same
 
 -- the beginning
@@ -363,7 +363,7 @@ begins s region some some_levels few_levels is = record {
 -- a step as it was made
 pub makes_as_given : (s : Scene) (region : Region) (k : ℕ) (c : Cursor) (o : Outcome) (words : List ℕ) (end : WalkEnd) (after : Cursor)
     → words ≡ (made c o).words → end ≡ (made c o).end → after ≡ (made c o).after
-    → IsAt s region k c → IsSome (key_of c) → Fits c o → HasNoOrphan o → HasLimits o → outcome_seen o ≡ s.outcome (next_root c)
+    → IsAt s region k c → IsSome (cursor_key c) → Fits c o → HasNoOrphan o → HasLimits o → outcome_seen o ≡ s.outcome (next_root c)
     → GivesStep s region k words end × IsAt s region (k + 1) after
 makes_as_given s region k c o words end after words_are end_is after_is is some fits whole limits same =
     let m = makes_step s region k c o is some fits whole limits same in (

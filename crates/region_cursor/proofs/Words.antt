@@ -18,7 +18,7 @@ use Rattle.implicit_tiling.specs.Code.{word}
 use Rattle.implicit_tiling.specs.Nodes.{node_at, indices, tiles_in, node_word, level_words, is_child_in, children_in, child_word, child_words}
 use Rattle.tiling_laws.proofs.TileAt.{tile_at_level}
 use Rattle.availability.proofs.Masks.{mask_below}
-use Rattle.availability.proofs.Tiles.{word_is_word, mask_of_word, level_of_word}
+use Rattle.tile_word.proofs.Tiles.{word_is_word, mask_of_word, level_of_word}
 use Rattle.walk_laws.proofs.Decoded.{of_tiles_in}
 use Rattle.region_cursor.specs.Cursor.{Cursor, local_level_of, IsRootAt, IsTileWord, FitsSubtree}
 use Rattle.region_cursor.specs.Moves.{with_children, counted, room, made_by, made_good}

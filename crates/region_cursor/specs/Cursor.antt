@@ -9,8 +9,8 @@ use Rattle.implicit_tiling.specs.Scene.{Layout}
 use Rattle.implicit_tiling.specs.Subtree.{Subtree, has_orphan}
 use Rattle.implicit_tiling.specs.Answer.{most_tiles}
 use Rattle.implicit_tiling.specs.Code.{word, word_tile, word_level, word_mask, IsWord}
-use Rattle.tile_walk.specs.declared.outcome.Outcome.{Outcome}
-use Rattle.tile_walk.specs.declared.outcome.Outcome.TheVariants.{Good, Bad}
+use Rattle.subtree_outcome.specs.declared.outcome.Outcome.{Outcome}
+use Rattle.subtree_outcome.specs.declared.outcome.Outcome.TheVariants.{Good, Bad}
 
 -- Of the layout the scheme, the levels of a subtree and in all, and the number of contents; the region; the level of the
 -- next step and the place of its root among the roots of that level's subtrees; the words of these roots and of the roots
@@ -60,8 +60,8 @@ pub record IsCursor (c : Cursor) : Type 0 where
   pub are_next_roots : All (IsRootAt c.scheme (root_level_of c + c.subtree_levels)) c.next_roots
 
 -- the word of the root that the next step reads, if the walk goes on, and its tile
-abbrev pub key_of : Cursor → Option ℕ
-key_of c = slice_get c.roots c.position
+abbrev pub cursor_key : Cursor → Option ℕ
+cursor_key c = slice_get c.roots c.position
 
 abbrev pub next_root : Cursor → Tile
 next_root c = word_tile c.scheme (slice_index c.roots c.position)
@@ -97,7 +97,7 @@ pub record FitsSubtree (c : Cursor) (st : Subtree) : Type 0 where
   pub same_cut : st.cut ≡ c.levels
   pub contents_named : length st.contents ≤ c.contents
   pub root_at_start : st.root.level % c.subtree_levels ≡ 0
-  pub key : key_of c ≡ Some (word st.scheme st.root 0)
+  pub key : cursor_key c ≡ Some (word st.scheme st.root 0)
 
 abbrev pub Fits : Cursor → Outcome → Type 0
 Fits c (Good subtree) = FitsSubtree c subtree

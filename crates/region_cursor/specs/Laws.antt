@@ -3,19 +3,19 @@ use Rattle.std.specs.Prelude.{ℕ, ◌≡◌, Some}
 use Rattle.implicit_tiling.specs.Region.{Region}
 use Rattle.implicit_tiling.specs.Scene.{Layout}
 use Rattle.implicit_tiling.specs.Code.{word_tile}
-use Rattle.region_cursor.specs.Cursor.{Cursor, IsWalkOf, IsSameWalk, IsRootKey, Fits, key_of, next_root}
+use Rattle.region_cursor.specs.Cursor.{Cursor, IsWalkOf, IsSameWalk, IsRootKey, Fits, cursor_key, next_root}
 use Rattle.implicit_tiling.specs.Availability.{IsRootOf}
-use Rattle.tile_walk.specs.Outcomes.{IsOutcomeAt}
-use Rattle.tile_walk.specs.declared.outcome.Outcome.{Outcome}
+use Rattle.subtree_outcome.specs.Outcomes.{IsOutcomeAt}
+use Rattle.subtree_outcome.specs.declared.outcome.Outcome.{Outcome}
 
 abbrev pub WalksStay : Type 0
 WalksStay = (layout : Layout) (region : Region) (old new : Cursor) → IsWalkOf layout region old → IsSameWalk old new → IsWalkOf layout region new
 
 abbrev pub NextRootIsOfTheKey : Type 0
-NextRootIsOfTheKey = (c : Cursor) (key : ℕ) → key_of c ≡ Some key → next_root c ≡ word_tile c.scheme key
+NextRootIsOfTheKey = (c : Cursor) (key : ℕ) → cursor_key c ≡ Some key → next_root c ≡ word_tile c.scheme key
 
 abbrev pub OutcomesFit : Type 0
-OutcomesFit = (layout : Layout) (region : Region) (c : Cursor) (key : ℕ) (found : Outcome) → IsWalkOf layout region c → key_of c ≡ Some key → IsRootKey c key
+OutcomesFit = (layout : Layout) (region : Region) (c : Cursor) (key : ℕ) (found : Outcome) → IsWalkOf layout region c → cursor_key c ≡ Some key → IsRootKey c key
     → IsOutcomeAt layout (word_tile layout.scheme key) found → Fits c found
 
 abbrev pub NextKeysAreOfRootTiles : Type 0

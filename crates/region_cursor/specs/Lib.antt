@@ -1,4 +1,5 @@
 pub mod Cursor
 pub mod Moves
 pub mod Walked
+pub mod Joined
 pub mod Laws

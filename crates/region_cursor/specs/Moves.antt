@@ -9,9 +9,9 @@ use Rattle.implicit_tiling.specs.Code.{word}
 use Rattle.implicit_tiling.specs.Nodes.{level_words, child_words}
 use Rattle.tile_coords.specs.declared.walk_end.WalkEnd.{WalkEnd}
 use Rattle.tile_coords.specs.declared.walk_end.WalkEnd.TheVariants.{Partial, Complete, TooMany, Fault}
-use Rattle.tile_walk.specs.declared.outcome.Outcome.{Outcome}
-use Rattle.tile_walk.specs.declared.outcome.Outcome.TheVariants.{Good, Bad}
-use Rattle.region_cursor.specs.Cursor.{Cursor, local_level_of, is_last_local, key_of}
+use Rattle.subtree_outcome.specs.declared.outcome.Outcome.{Outcome}
+use Rattle.subtree_outcome.specs.declared.outcome.Outcome.TheVariants.{Good, Bad}
+use Rattle.region_cursor.specs.Cursor.{Cursor, local_level_of, is_last_local, cursor_key}
 
 -- the walk begins with the root, at level 0
 abbrev pub begun : Layout → Region → Cursor
@@ -46,8 +46,8 @@ abbrev pub pair_after : Bool → Cursor → Cursor
 pair_after true c = record c { position = c.position + 1 }
 pair_after false c = next_level c
 
-abbrev pub passed : Cursor → Cursor
-passed c = pair_after (nat_lt (c.position + 1) (length c.roots)) c
+abbrev pub moved_on : Cursor → Cursor
+moved_on c = pair_after (nat_lt (c.position + 1) (length c.roots)) c
 
 -- what a step gives, and the state after it
 pub record Made : Type 0 where
@@ -61,7 +61,7 @@ end_by_key (Some key) = Partial
 
 -- a step that ends the walk only where it is the last one
 abbrev pub went_on : List ℕ → Cursor → Made
-went_on words c = record { words = words; end = end_by_key (key_of (passed c)); after = passed c }
+went_on words c = record { words = words; end = end_by_key (cursor_key (moved_on c)); after = moved_on c }
 
 -- the children of the subtree are found at its last local level, unless the walk is cut there
 abbrev pub children_if : Bool → List ℕ → List ℕ → List ℕ

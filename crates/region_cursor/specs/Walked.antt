@@ -11,7 +11,7 @@ use Rattle.tile_coords.specs.Ends.{end_seen}
 use Rattle.tile_coords.specs.declared.walk_end.WalkEnd.{WalkEnd}
 use Rattle.walk_laws.specs.Children.{roots_below}
 use Rattle.walk_laws.specs.Pairs.{pairs_above, NoPairFaults, tiles_of_pairs}
-use Rattle.region_cursor.specs.Cursor.{Cursor, IsWalkOf, is_last_local, key_of}
+use Rattle.region_cursor.specs.Cursor.{Cursor, IsWalkOf, is_last_local, cursor_key}
 
 -- the word of a root, with mask 0
 abbrev pub root_word : Scene → Tile → ℕ
@@ -44,7 +44,7 @@ IsAtBy (Some key) s region k c = IsUnderWay s region k c
 IsAtBy None s region k c = k ≡ length (steps s region)
 
 abbrev pub IsAt : Scene → Region → ℕ → Cursor → Type 0
-IsAt s region k c = IsAtBy (key_of c) s region k c
+IsAt s region k c = IsAtBy (cursor_key c) s region k c
 
 -- the key after k steps: the word of the root of pair k, where step k is to be made, and none where all steps are made
 abbrev pub IsNextKey : Scene → Region → ℕ → Option ℕ → Type 0

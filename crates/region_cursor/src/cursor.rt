@@ -6,19 +6,20 @@ ghost use Rattle.implicit_tiling.specs.Subtree.{IsSubtree};
 ghost use Rattle.implicit_tiling.specs.Answer.{most_tiles};
 ghost use Rattle.implicit_tiling.specs.Nodes.{child_words};
 ghost use Rattle.tile_coords.specs.Ends.{EndsAtRoot};
-ghost use Rattle.tile_walk.specs.Outcomes.{outcome_seen};
-ghost use Rattle.tile_walk.specs.Plans.{FitsLayout};
-ghost use Rattle.region_cursor.specs.Cursor.{local_level_of, is_last_local as is_last_local_of, key_of, next_root, Fits, FitsSubtree, HasNoOrphan, IsCursor, IsRootKey, IsTileWord, IsWalkOf, IsSameWalk};
-ghost use Rattle.region_cursor.specs.Moves.{begun, over, next_level, level_after, passed, went_on, with_children, made, made_good, made_bad};
+ghost use Rattle.subtree_outcome.specs.Outcomes.{outcome_seen};
+ghost use Rattle.walk_laws.specs.Plans.{FitsLayout};
+ghost use Rattle.region_cursor.specs.Cursor.{local_level_of, is_last_local as is_last_local_of, cursor_key, next_root, Fits, FitsSubtree, HasNoOrphan, IsCursor, IsRootKey, IsTileWord, IsWalkOf, IsSameWalk};
+ghost use Rattle.region_cursor.specs.Moves.{begun, over, next_level, level_after, moved_on, went_on, with_children, made, made_good, made_bad};
 ghost use Rattle.region_cursor.specs.Walked.{IsAt, IsNextKey, GivesStep};
 
-use availability::{Subtree, word_of};
+use availability::Subtree;
 use region_scan::{child_roots, level_tiles};
 use std::alloc::{AllocError, Global};
 use std::marker::Model;
 use std::mem::swap;
+use subtree_outcome::Outcome;
 use tile_coords::{Plan, Region, Scheme, Tile, WalkEnd, Word};
-use tile_walk::Outcome;
+use tile_word::word_of;
 use tileset_json::Layout;
 
 // The most tiles of an answer.
@@ -80,7 +81,7 @@ impl CursorState {
 
     /// The word, with mask 0, of the subtree root that the next step reads. None exactly where the walk has ended.
     pub fn next_key(&self) -> Option<Word>
-        ensures key { result ≡ key_of self.now }
+        ensures key { result ≡ cursor_key self.now }
         ensures root { IfSome result (IsRootKey self.now) }
         ensures scene { (s : Scene) (k : ℕ) → IsAt s self.now.region k self.now → IsNextKey s self.now.region k result }
         ensures few { length self.now.roots < 2 ^ 64 }
@@ -93,7 +94,7 @@ impl CursorState {
     /// also below the root's own level: the file may have changed since it was read there. Memory is the one error; it
     /// leaves the walk and `words` as they were.
     pub fn step(&mut self, outcome: &Outcome, words: &mut Vec<Word>) -> Result<WalkEnd, AllocError>
-        requires key { IsSome (key_of self.old) }
+        requires key { IsSome (cursor_key self.old) }
         requires fits { Fits self.old outcome.now }
         ensures words { IfOk result (λ end. words.new.items ≡ (made self.old outcome.now).words) }
         ensures end { IfOk result (λ end. end ≡ (made self.old outcome.now).end) }
@@ -120,7 +121,7 @@ impl CursorState {
 
     // The tiles go behind what `words` has until all memory is taken.
     fn step_good(&mut self, subtree: &Subtree, words: &mut Vec<Word>) -> Result<WalkEnd, AllocError>
-        requires key { IsSome (key_of self.old) }
+        requires key { IsSome (cursor_key self.old) }
         requires fits { FitsSubtree self.old subtree.now }
         ensures words { IfOk result (λ end. words.new.items ≡ (made_good self.old subtree.now).words) }
         ensures end { IfOk result (λ end. end ≡ (made_good self.old subtree.now).end) }
@@ -150,7 +151,7 @@ impl CursorState {
 
     // A fault ends the walk at each local level.
     fn step_bad(&mut self, number: u64) -> WalkEnd
-        requires key { IsSome (key_of self.old) }
+        requires key { IsSome (cursor_key self.old) }
         ensures end { result ≡ (made_bad self.old number).end }
         ensures after { self.new ≡ (made_bad self.old number).after }
         ensures given { self.old.count ≤ most_tiles }
@@ -163,7 +164,7 @@ impl CursorState {
 
     // The next key, and what every state is.
     fn key(&self) -> Option<Word>
-        ensures key { result ≡ key_of self.now }
+        ensures key { result ≡ cursor_key self.now }
         ensures limits { IsCursor self.now }
         ensures few { length self.now.roots < 2 ^ 64 }
     {
@@ -205,7 +206,7 @@ impl CursorState {
 
     // To the next root of the level, else to the first one of the next level.
     fn go_on(&mut self) -> WalkEnd
-        requires key { IsSome (key_of self.old) }
+        requires key { IsSome (cursor_key self.old) }
         ensures end { result ≡ (went_on [] self.old).end }
         ensures after { self.new ≡ (went_on [] self.old).after }
     {
@@ -217,8 +218,8 @@ impl CursorState {
     }
 
     fn pass(&mut self)
-        requires key { IsSome (key_of self.old) }
-        ensures { self.new ≡ passed self.old }
+        requires key { IsSome (cursor_key self.old) }
+        ensures { self.new ≡ moved_on self.old }
     {
         if self.position + 1 < self.roots.len() {
             self.position += 1;

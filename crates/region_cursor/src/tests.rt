@@ -1,17 +1,18 @@
 // Whole walks over subtrees whose bits are all 1.
 ghost use Rattle.std.specs.Prelude.{◌≡◌, ◌+◌, ◌%◌, ◌<◌, ◌≤◌, IfOk, IfSome, length};
 ghost use Rattle.implicit_tiling.specs.Tile.{IsTile};
-ghost use Rattle.tile_walk.specs.Plans.{FitsLayout};
+ghost use Rattle.walk_laws.specs.Plans.{FitsLayout};
 ghost use Rattle.implicit_tiling.specs.Code.{word_tile};
-ghost use Rattle.tile_walk.specs.Outcomes.{IsFoundAt, IsOutcomeAt};
+ghost use Rattle.subtree_outcome.specs.Outcomes.{IsFoundAt, IsOutcomeAt};
 
 use crate::CursorState;
-use availability::{Subtree, nodes_above, nodes_at, tile_of};
+use availability::{Subtree, nodes_above};
 use bitstream::Bits;
 use std::alloc::{AllocError, Global};
 use std::test::Fail;
+use subtree_outcome::Outcome;
 use tile_coords::{Plan, Region, Scheme, Tile, WalkEnd, Word};
-use tile_walk::Outcome;
+use tile_word::{nodes_at, tile_of};
 use tileset_json::Layout;
 use uri_template::Template;
 

@@ -13,7 +13,7 @@ use Rattle.implicit_tiling.specs.Subtree.{Subtree, IsSubtree, has_tile}
 use Rattle.implicit_tiling.specs.Nodes.{node_at}
 use Rattle.bitstream.specs.Bits.{HasNoOne, IsFirstOne}
 use Rattle.tiling_laws.proofs.Ancestors.{branching_pow_pos}
-use Rattle.availability.proofs.Levels.{branching_at_1}
+use Rattle.tile_word.proofs.Levels.{branching_at_1}
 use Rattle.availability.proofs.Places.{level_fits}
 use Rattle.region_scan.proofs.NodesInRegion.{node_above_in}
 

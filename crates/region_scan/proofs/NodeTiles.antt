@@ -19,7 +19,7 @@ use Rattle.region_scan.proofs.Scan.{none_pass}
 use Rattle.tiling_laws.proofs.Index.{index_below}
 use Rattle.tiling_laws.proofs.TileAt.{same_tile, tile_at_level, tile_at_is_tile, index_of_tile_at, tile_at_index}
 use Rattle.tiling_laws.proofs.Ancestors.{branching_pow_pos, descendants}
-use Rattle.availability.proofs.Levels.{power_of_branching, indices_fit}
+use Rattle.tile_word.proofs.Levels.{power_of_branching, indices_fit}
 
 -- the index of a node is one of its level
 pub index_in_level : (scheme : Scheme) (t : Tile) (l m : ℕ) → m < branching scheme ^ l

@@ -16,9 +16,9 @@ use Rattle.implicit_tiling.specs.Subtree.{Subtree, IsSubtree, is_kept, node_bit,
 use Rattle.implicit_tiling.specs.Bits.{bit_at}
 use Rattle.implicit_tiling.specs.Nodes.{node_at, is_tile_in, node_word, is_child_in, child_word}
 use Rattle.tiling_laws.proofs.Order.{below_by_index}
-use Rattle.availability.specs.Words.{HasWord}
+use Rattle.tile_word.specs.Words.{HasWord}
 use Rattle.availability.proofs.Masks.{mask_below}
-use Rattle.availability.proofs.Tiles.{level_of_word, mask_of_word, tile_of_word, word_is_word}
+use Rattle.tile_word.proofs.Tiles.{level_of_word, mask_of_word, tile_of_word, word_is_word}
 use Rattle.region_scan.specs.NodeLaws.{IsNodeWord, WordsAreFound, WordsRiseInKeyOrder}
 use Rattle.region_scan.proofs.NodeTiles.{node_is_tile, node_level, node_index, root_above}
 

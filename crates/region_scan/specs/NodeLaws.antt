@@ -20,8 +20,8 @@ pub record IsNode (s : Subtree) (l m : ℕ) (t : Tile) : Type 0 where
   pub coordinates : t ≡ below s.root (tile_at s.scheme l m)
   pub above : ancestor l t ≡ s.root
 
-abbrev pub NodesAreTiles : Type 0
-NodesAreTiles = (s : Subtree) (l m : ℕ) → IsTile s.scheme s.root → m < branching s.scheme ^ l → IsNode s l m (node_at s l m)
+abbrev pub EachNodeIsATile : Type 0
+EachNodeIsATile = (s : Subtree) (l m : ℕ) → IsTile s.scheme s.root → m < branching s.scheme ^ l → IsNode s l m (node_at s l m)
 
 -- for one mask a node's word rises with its local index
 abbrev pub WordsRise : Type 0

@@ -1,10 +1,10 @@
 // Laws of a subtree's nodes and of the words that are found (this project's own).
-ghost use Rattle.region_scan.specs.NodeLaws.{NodesAreTiles, WordsRise, NodesInTheRegion, NodeChildren, FoundWordsAreWords, FoundWordsRise};
+ghost use Rattle.region_scan.specs.NodeLaws.{EachNodeIsATile, WordsRise, NodesInTheRegion, NodeChildren, FoundWordsAreWords, FoundWordsRise};
 
 /// A node is a tile of its level below the root: its index is the level's first and then its own, and its coordinates
 /// are the root's and then its own.
 pub fn nodes_are_tiles_below_the_root()
-    ensures { NodesAreTiles }
+    ensures { EachNodeIsATile }
 {}
 
 /// For one mask a node's word rises with its local index.

@@ -4,8 +4,9 @@ ghost use Rattle.implicit_tiling.specs.Tile.{branching};
 ghost use Rattle.implicit_tiling.specs.Nodes.{node_at as node_at_of, node_word, child_word};
 ghost use Rattle.region_scan.specs.Found.{first_index, is_looked_at as is_looked_at_of};
 
-use availability::{Subtree, index_of, tile_at, word_of};
+use availability::Subtree;
 use tile_coords::{Region, Tile, Word};
+use tile_word::{index_of, tile_at, word_of};
 
 /// Whether the nodes of a local level are below the levels in all, and not below the region's level: where they aren't,
 /// none of them is in the region.

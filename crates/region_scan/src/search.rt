@@ -7,8 +7,9 @@ ghost use Rattle.bitstream.specs.Bits.{HasNoOne, IsFirstOne};
 ghost use Rattle.region_scan.specs.Found.{first_index, is_child};
 
 use crate::nodes::{first_at, node_at};
-use availability::{Subtree, nodes_at};
+use availability::Subtree;
 use tile_coords::Region;
+use tile_word::nodes_at;
 
 /// The least index from `from` on of a node of a local level that is there and in the region. None exactly where there is
 /// none. `first` is the index of the level's first node.

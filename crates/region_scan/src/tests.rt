@@ -3,11 +3,12 @@ ghost use Rattle.std.specs.Prelude.{◌≡◌, ◌<◌, ◌≤◌, IfOk, length}
 ghost use Rattle.implicit_tiling.specs.Limits.{most_levels, most_subtree_levels};
 
 use crate::{child_roots, level_tiles};
-use availability::{Subtree, nodes_above, nodes_at};
+use availability::{Subtree, nodes_above};
 use bitstream::Bits;
 use std::alloc::{AllocError, Global};
 use std::test::Fail;
 use tile_coords::{Region, Scheme, Tile, Word};
+use tile_word::nodes_at;
 
 // A word of level 1, and one of the first content.
 const LEVEL: Word = 1 << 59;

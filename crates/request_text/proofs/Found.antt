@@ -11,8 +11,8 @@ use Rattle.implicit_tiling.specs.Scene.{Scene, fault_of}
 use Rattle.implicit_tiling.specs.Availability.{is_reached}
 use Rattle.implicit_tiling.specs.Answer.{fault_at}
 use Rattle.implicit_tiling.specs.Checked.{checked, most_roots, reached_roots}
-use Rattle.availability.specs.Words.{HasWord}
-use Rattle.availability.proofs.Tiles.{words_have_their_parts}
+use Rattle.tile_word.specs.Words.{HasWord}
+use Rattle.tile_word.proofs.Tiles.{words_have_their_parts}
 use Rattle.request_text.specs.Laws.{FoundMakeTheText}
 use Rattle.request_text.proofs.Words.{all_have_words}
 use Rattle.std.specs.Io.KnownBytes.{Appends}

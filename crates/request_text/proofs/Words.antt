@@ -16,8 +16,8 @@ use Rattle.implicit_tiling.specs.Code.{word_mask, tile_word}
 use Rattle.implicit_tiling.specs.Text.{tile_line, word_line, end_line}
 use Rattle.tiling_laws.proofs.TileAt.{tile_at_is_tile, tile_at_level}
 use Rattle.tiling_laws.proofs.Order.{of_all_tiles}
-use Rattle.availability.specs.Words.{HasWord}
-use Rattle.availability.proofs.Tiles.{words_have_their_parts}
+use Rattle.tile_word.specs.Words.{HasWord}
+use Rattle.tile_word.proofs.Tiles.{words_have_their_parts}
 use Rattle.request_text.specs.Laws.{WordsMakeTheText}
 
 -- a content's bit is at most its worth

@@ -5,10 +5,10 @@ ghost use Rattle.implicit_tiling.specs.Code.{IsWord, word_tile};
 ghost use Rattle.implicit_tiling.specs.Text.{coordinate_texts};
 ghost use Rattle.request_text.specs.Fields.{joined, after_tab};
 
-use availability::{WordTile, tile_of};
 use itoa::Buffer;
 use std::alloc::AllocError;
 use tile_coords::{Scheme, Tile, Word};
+use tile_word::{WordTile, tile_of};
 
 // Appends a text, a number and LF.
 pub(crate) fn push_count(text: &str, count: usize, piece: &mut String) -> Result<(), AllocError>

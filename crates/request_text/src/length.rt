@@ -8,9 +8,9 @@ ghost use Rattle.implicit_tiling.specs.Text.{coordinate_texts, content_texts, ti
 ghost use Rattle.tile_coords.specs.Ends.{end_seen, EndsAtRoot};
 ghost use Rattle.request_text.specs.Fields.{joined, after_tab};
 
-use availability::{WordTile, tile_of};
 use itoa::Buffer;
 use tile_coords::{Scheme, Tile, WalkEnd, Word};
+use tile_word::{WordTile, tile_of};
 use tileset_json::Layout;
 use uri_template::Template;
 

@@ -8,11 +8,11 @@ use crate::{
     answer_length, is_coordinates, is_number, parse_line, write_answer, write_check, write_made,
     write_refusal, write_survey,
 };
-use availability::tile_of;
 use scene_ports::{GiveFault, MemoryLink};
 use std::alloc::{AllocError, Global};
 use std::test::Fail;
 use tile_coords::{CheckEnd, FoundFault, Scheme, WalkEnd, Word};
+use tile_word::tile_of;
 use tileset_json::Layout;
 use uri_template::Template;
 

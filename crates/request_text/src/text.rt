@@ -13,10 +13,10 @@ ghost use Rattle.scene_ports.specs.Output.{GivesFront};
 ghost use Rattle.request_text.specs.Fields.{joined, after_tab};
 
 use crate::fields::{push_coordinates, push_count, push_field, push_number, push_place};
-use availability::{WordTile, tile_of};
 use scene_ports::{GiveFault, Outlet, give_rest, give_when_full};
 use std::alloc::{AllocError, Global};
 use tile_coords::{Scheme, Tile, WalkEnd, Word};
+use tile_word::{WordTile, tile_of};
 use tileset_json::Layout;
 use uri_template::Template;
 

@@ -2,10 +2,11 @@
 ghost use Rattle.subtree_file.specs.Decoding.{DecodesList, used_in};
 
 use crate::fault::DecodeFault;
-use availability::{nodes_above, nodes_at};
+use availability::nodes_above;
 use std::alloc::Global;
 use std::marker::Model;
 use subtree_json::{Availability, ContentPart, JsonFault, SubtreeRecord};
+use tile_word::nodes_at;
 use tileset_json::Layout;
 
 // An availability that is used, and how many bits of it are needed.

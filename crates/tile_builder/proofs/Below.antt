@@ -10,16 +10,18 @@ use Rattle.implicit_tileset.specs.Tileset.{most_levels as levels_limit}
 use Rattle.implicit_tiling.specs.Limits.{most_levels}
 use Rattle.implicit_tiling.specs.Tile.{Tile, IsTile, branching, ancestor, index}
 use Rattle.implicit_tiling.specs.Scene.{Layout}
-use Rattle.implicit_tiling.specs.Code.{word_tile, IsWord}
+use Rattle.implicit_tiling.specs.Code.{word_index, word_tile, IsWord}
 use Rattle.tiling_laws.proofs.TileAt.{tile_at_level, index_of_tile_at}
 use Rattle.tiling_laws.proofs.Ancestors.{descendants, branching_pow_pos}
-use Rattle.walk_laws.proofs.Lists.{filter_same, filter_none}
+use Rattle.tiling_laws.proofs.Walk.{filter_same}
+use Rattle.walk_laws.proofs.Lists.{filter_none}
 use Rattle.walk_laws.proofs.Plain.{same_test}
 use Rattle.walk_laws.proofs.Runs.{run_fits}
-use Rattle.availability.proofs.Levels.{indices_fit, levels_below_32}
-use Rattle.availability.proofs.Tiles.{index_is_short, key_is_that_of_the_tile, word_tile_is_tile, word_tile_fits, word_tile_level}
-use Rattle.availability.specs.Words.{word_key}
-use Rattle.tile_occupancy.specs.Occupied.{IsWordBelow, AreWords, is_same}
+use Rattle.tile_word.proofs.Levels.{indices_fit, levels_below_32}
+use Rattle.tile_word.proofs.Parts.{index_of_parts}
+use Rattle.tile_word.proofs.Tiles.{index_is_short, key_is_that_of_the_tile, word_tile_is_tile, word_tile_fits, word_tile_level}
+use Rattle.tile_word.specs.Words.{word_key}
+use Rattle.tile_occupancy.specs.Occupied.{IsWordBelow, AreWordsBelow, is_same}
 use Rattle.build_laws.specs.Made.{tile_in}
 use Rattle.build_laws.proofs.Under.{same_says, same_from}
 use Rattle.tile_builder.specs.Runs.{first_key, is_key_in, is_below, words_below}
@@ -117,7 +119,7 @@ not_true : {P : Type 0} (b : Bool) → (b ≡ true → P) → (P → ⊥) → b 
 not_true true says never = absurd (never (says refl))
 not_true false says never = refl
 
-pub none_below : (layout : Layout) (r : Tile) (down : ℕ) (ws : List ℕ) → AreWords layout.scheme layout.levels ws → layout.levels ≤ r.level + down → words_below layout ws r down ≡ []
+pub none_below : (layout : Layout) (r : Tile) (down : ℕ) (ws : List ℕ) → AreWordsBelow layout.scheme layout.levels ws → layout.levels ≤ r.level + down → words_below layout ws r down ≡ []
 none_below layout r down ws are deep =
     filter_none (is_below layout r down) ws
     (All-weaker (IsWordBelow layout.scheme layout.levels) (λ w. is_below layout r down w ≡ false)
@@ -129,7 +131,7 @@ few_levels Quad n levels low few = omega (arith, low, few)
 few_levels Oct n levels low few = omega (arith, low, few)
 
 pub below_is_run : (layout : Layout) (scheme : Scheme) (r : Tile) (down first n : ℕ) (ws found : List ℕ) → scheme ≡ layout.scheme → IsTile layout.scheme r
-    → r.level + down < most_levels scheme → AreWords layout.scheme layout.levels ws → first ≡ first_key scheme r down → n ≡ branching scheme ^ down
+    → r.level + down < most_levels scheme → AreWordsBelow layout.scheme layout.levels ws → first ≡ first_key scheme r down → n ≡ branching scheme ^ down
     → found ≡ filter (is_key_in first n) ws → found ≡ words_below layout ws r down
 below_is_run layout scheme r down first n ws found same tile few are at nodes is =
     is ∙ ap (λ k. filter (is_key_in k n) ws) at ∙ ap (λ m. filter (is_key_in (first_key scheme r down) m) ws) nodes
@@ -140,3 +142,12 @@ below_is_run layout scheme r down first n ws found same tile few are at nodes is
 pub run_is_short : (scheme : Scheme) (r : Tile) (down first n : ℕ) → r.level + down < most_levels scheme → first ≡ first_key scheme r down → n ≡ branching scheme ^ down → first + n < 2 ^ 64
 run_is_short scheme r down first n few at nodes =
     omega (arith, at, nodes, first_key_is scheme r down, last_fits scheme r down, indices_fit scheme (r.level + down) few, levels_below_32 scheme (r.level + down) few)
+
+-- the run ends within the indices of its level
+pub run_ends : (scheme : Scheme) (r : Tile) (down first n : ℕ) → r.level + down < most_levels scheme → first ≡ first_key scheme r down → n ≡ branching scheme ^ down → word_index first + n ≤ 2 ^ 51
+run_ends scheme r down first n few at nodes =
+    let start = index scheme r * branching scheme ^ down in
+    let fits = indices_fit scheme (r.level + down) few in
+    let apart : first ≡ (r.level + down) * 2 ^ 59 + 0 * 2 ^ 51 + start = omega (arith, at, first_key_is scheme r down) in
+    let here : word_index first ≡ start = ap word_index apart ∙ index_of_parts (r.level + down) 0 start (omega (arith, fits, first_fits scheme r down)) in
+    omega (arith, here, nodes, last_fits scheme r down, fits)

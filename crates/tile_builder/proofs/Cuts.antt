@@ -9,7 +9,7 @@ use Rattle.std.proofs.lemmas.List.Folds.{drop_split}
 use Rattle.std.proofs.lemmas.Slice.{between_is}
 use Rattle.std.proofs.lemmas.List.{get_or-take, get_or-drop, take-append-drop}
 use Rattle.walk_laws.proofs.Lists.{filter_none, filter_all}
-use Rattle.availability.specs.Words.{word_key}
+use Rattle.tile_word.specs.Words.{word_key}
 use Rattle.tile_builder.specs.Runs.{is_key_in}
 
 -- words that are cut where a test of their keys ends

@@ -13,7 +13,8 @@ use Rattle.implicit_tiling.specs.Availability.{local_level, subtree_root, is_sub
 use Rattle.implicit_tiling.specs.Code.{word_level, word_index}
 use Rattle.tiling_laws.proofs.Nodes.{range_more}
 use Rattle.tiling_laws.proofs.TileAt.{tile_at_is_tile}
-use Rattle.walk_laws.proofs.Lists.{filter_same, of_range}
+use Rattle.tiling_laws.proofs.Walk.{filter_same}
+use Rattle.walk_laws.proofs.Lists.{of_range}
 use Rattle.walk_laws.proofs.Plain.{same_test}
 use Rattle.walk_laws.proofs.Segments.{local_of, local_low}
 use Rattle.build_laws.specs.Made.{tile_in, is_under, under, is_child_root, child_roots}

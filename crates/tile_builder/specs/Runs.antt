@@ -5,7 +5,7 @@ use Rattle.implicit_tiling.specs.declared.Scheme.{Scheme}
 use Rattle.implicit_tiling.specs.Tile.{Tile, branching, ancestor, index, tile_at}
 use Rattle.implicit_tiling.specs.Scene.{Layout}
 use Rattle.implicit_tiling.specs.Code.{word}
-use Rattle.availability.specs.Words.{word_key}
+use Rattle.tile_word.specs.Words.{word_key}
 use Rattle.tile_occupancy.specs.Occupied.{is_same}
 use Rattle.build_laws.specs.Made.{tile_in}
 

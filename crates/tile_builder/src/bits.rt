@@ -9,10 +9,11 @@ ghost use Rattle.implicit_tiling.specs.Subtree.{node_count};
 ghost use Rattle.bitstream.specs.Bits.{bits_of_places};
 ghost use Rattle.tile_builder.specs.Bits.{node_places as node_places_of, content_bits as content_bits_of};
 
-use availability::{index_of, mask_of, nodes_above, nodes_at, word_tile};
+use availability::nodes_above;
 use bitstream::Bits;
 use std::alloc::{AllocError, Global};
 use tile_coords::Word;
+use tile_word::{index_of, mask_of, nodes_at, word_tile};
 use tileset_json::Layout;
 
 // The places of the tiles of some words among the nodes of their subtrees.

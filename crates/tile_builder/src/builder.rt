@@ -13,11 +13,11 @@ ghost use Rattle.tile_builder.specs.Puts.{ArePut, Stops, IfTold, put_of};
 ghost use Rattle.implicit_tiling.specs.Availability.{IsRootOf};
 
 use crate::file::MadeFile;
-use availability::word_tile;
 use scene_ports::{FileKeeper, Put};
 use std::alloc::{AllocError, Global};
 use tile_coords::{Tile, Word};
 use tile_occupancy::Occupancy;
+use tile_word::word_tile;
 use tileset_json::Layout;
 
 /// What was built.

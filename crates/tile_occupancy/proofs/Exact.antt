@@ -14,7 +14,7 @@ use Rattle.tiling_laws.proofs.Order.{keys_rise, in_all_tiles}
 use Rattle.tiling_laws.proofs.Ancestors.{ancestor_is_tile}
 use Rattle.tiling_laws.proofs.Rising.{rising_tiles_are_one, in_filtered}
 use Rattle.tile_occupancy.specs.Occupied.{is_same, tiles_of, IsOccupancy}
-use Rattle.availability.proofs.Tiles.{mask_of_word, word_tile_level}
+use Rattle.tile_word.proofs.Tiles.{mask_of_word, word_tile_level}
 use Rattle.tile_occupancy.specs.Generated.{point, generated_mask, IsGenerated, is_generated, generated_tiles, generated_word, generated_words, AreGenerated}
 use Rattle.tile_occupancy.proofs.Keys.{has_word}
 use Rattle.tile_occupancy.proofs.Generated.{mask_below, mask_fits}

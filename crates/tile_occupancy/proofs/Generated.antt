@@ -18,8 +18,8 @@ use Rattle.implicit_tiling.specs.Tile.{Tile, IsTile, ancestor, is_key_below}
 use Rattle.implicit_tiling.specs.Code.{word, word_tile, IsWord}
 use Rattle.tiling_laws.proofs.Order.{below_by_level}
 use Rattle.tiling_laws.proofs.Ancestors.{ancestor_is_tile, ancestor_of_ancestor}
-use Rattle.availability.specs.Words.{word_key, HasWord}
-use Rattle.availability.proofs.Tiles.{tile_of_word, word_is_word, level_of_word, words_are_ordered}
+use Rattle.tile_word.specs.Words.{word_key, HasWord}
+use Rattle.tile_word.proofs.Tiles.{tile_of_word, word_is_word, level_of_word, words_are_ordered}
 use Rattle.tile_occupancy.specs.Occupied.{IsWordBelow, IsOccupancy, HasParent, tiles_of}
 use Rattle.tile_occupancy.specs.Generated.{point, IsGenerated, generated_mask, generated_word, HasLines, AreGenerated}
 use Rattle.tile_occupancy.proofs.Keys.{RiseBefore, by_key, rise_upto, rising_from, places, tile_of_place}

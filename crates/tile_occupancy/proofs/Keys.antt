@@ -13,8 +13,8 @@ use Rattle.std.proofs.lemmas.Bool.{cases_order, cases_lt, ltb-true, ltb-false}
 use Rattle.implicit_tiling.specs.declared.Scheme.{Scheme}
 use Rattle.implicit_tiling.specs.Tile.{Tile, is_key_below, root}
 use Rattle.implicit_tiling.specs.Code.{word, word_tile, IsWord}
-use Rattle.availability.specs.Words.{word_key, HasWord}
-use Rattle.availability.proofs.Tiles.{tile_of_word, key_is_that_of_the_tile, parts_have_their_word, words_are_ordered}
+use Rattle.tile_word.specs.Words.{word_key, HasWord}
+use Rattle.tile_word.proofs.Tiles.{tile_of_word, key_is_that_of_the_tile, parts_have_their_word, words_are_ordered}
 use Rattle.tile_occupancy.specs.Occupied.{KeysRise, tiles_of}
 
 -- the keys of the words before a place rise

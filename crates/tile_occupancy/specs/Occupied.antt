@@ -15,8 +15,8 @@ pub record IsWordBelow (scheme : Scheme) (levels w : ℕ) : Type 0 where
   pub is_word : IsWord scheme w
   pub low : word_level w < levels
 
-abbrev pub AreWords : Scheme → ℕ → List ℕ → Type 0
-AreWords scheme levels words = All (IsWordBelow scheme levels) words
+abbrev pub AreWordsBelow : Scheme → ℕ → List ℕ → Type 0
+AreWordsBelow scheme levels words = All (IsWordBelow scheme levels) words
 
 -- the test of two tiles
 abbrev pub is_same : Tile → Tile → Bool
@@ -38,6 +38,6 @@ HaveParents scheme words = All (HasParent (tiles_of scheme words)) (tiles_of sch
 
 -- the list is whole: words of tiles below the levels in all, in key order, each tile with its parent
 pub record IsOccupancy (scheme : Scheme) (levels : ℕ) (words : List ℕ) : Type 0 where
-  pub are_words : AreWords scheme levels words
+  pub are_words : AreWordsBelow scheme levels words
   pub rise : KeysRise scheme words
   pub have_parents : HaveParents scheme words

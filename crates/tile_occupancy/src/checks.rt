@@ -3,15 +3,15 @@ ghost use Rattle.std.specs.Prelude.{◌≡◌, ◌<◌};
 ghost use Rattle.std.specs.Bool.{Decides};
 ghost use Rattle.std.specs.List.{All};
 ghost use Rattle.implicit_tiling.specs.Code.{IsWord};
-ghost use Rattle.tile_occupancy.specs.Occupied.{AreWords, IsWordBelow, KeysRise, HaveParents};
+ghost use Rattle.tile_occupancy.specs.Occupied.{AreWordsBelow, IsWordBelow, KeysRise, HaveParents};
 
 use crate::search::has_tile;
-use availability::{is_word, key_of, level_of, word_tile};
 use tile_coords::{Scheme, Word};
+use tile_word::{is_word, key_of, level_of, word_tile};
 
 // Whether each word is that of a tile of a level below `levels`.
 pub(crate) fn are_words(scheme: Scheme, levels: u32, words: &[Word]) -> bool
-    ensures { Decides result (AreWords scheme levels words.now) }
+    ensures { Decides result (AreWordsBelow scheme levels words.now) }
 {
     words
         .iter()

@@ -7,9 +7,9 @@ ghost use Rattle.implicit_tiling.specs.Tile.{IsTile, ancestor as ancestor_of};
 ghost use Rattle.tile_occupancy.specs.Generated.{AreGenerated, HasLines, generated_words, line_words, point as point_of, generated_mask};
 
 use crate::occupancy::Occupancy;
-use availability::word_of;
 use std::alloc::{AllocError, Global};
 use tile_coords::{Scheme, Tile, Word};
+use tile_word::word_of;
 
 // The steps of the points along each axis.
 const X_STEP: u64 = 40_503;

@@ -7,8 +7,8 @@ ghost use Rattle.implicit_tiling.specs.Tile.{IsTile};
 ghost use Rattle.implicit_tiling.specs.Code.{IsWord};
 ghost use Rattle.tile_occupancy.specs.Occupied.{KeysRise, tiles_of};
 
-use availability::{key_of, word_of};
 use tile_coords::{Scheme, Tile, Word};
+use tile_word::{key_of, word_of};
 
 // Whether a tile is among those of the words.
 pub(crate) fn has_tile(scheme: Scheme, words: &[Word], tile: &Tile) -> bool

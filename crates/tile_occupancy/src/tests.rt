@@ -1,8 +1,8 @@
 // Worked lists of words, and generated ones.
 use crate::{Occupancy, OccupancyFault, generate};
-use availability::word_of;
 use std::test::Fail;
 use tile_coords::{Scheme, Tile, Word};
+use tile_word::word_of;
 
 // The first word of a level, and one of the first content.
 const LEVEL: Word = 1 << 59;

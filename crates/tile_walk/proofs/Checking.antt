@@ -16,7 +16,7 @@ use Rattle.implicit_tiling.specs.Answer.{fault_at}
 use Rattle.implicit_tiling.specs.Checked.{most_roots, Checked}
 use Rattle.implicit_tiling.specs.Code.{word, word_tile}
 use Rattle.implicit_tiling.specs.Steps.{walk_roots}
-use Rattle.availability.proofs.Tiles.{parts_have_their_word}
+use Rattle.tile_word.proofs.Tiles.{parts_have_their_word}
 use Rattle.region_scan.proofs.NodeWords.{found_words_are_words}
 use Rattle.walk_laws.specs.Children.{roots_below}
 use Rattle.walk_laws.specs.Frontiers.{whole_of, reached_above, reached_at}
@@ -28,14 +28,12 @@ use Rattle.walk_laws.proofs.Frontiers.{reached_go_down, reached_are_all}
 use Rattle.walk_laws.proofs.Checked.{reached_at_a_root, checked_is_all, checked_is_cut}
 use Rattle.tile_coords.specs.declared.walk_end.FoundFault.{FoundFault}
 use Rattle.tile_coords.specs.declared.walk_end.CheckEnd.{CheckEnd}
-use Rattle.tile_walk.specs.Roots.{IsRootWord, AreRoots}
-use Rattle.tile_walk.specs.Outcomes.{IsFoundAt}
-use Rattle.tile_walk.specs.Walks.{IsWalked}
+use Rattle.tile_word.specs.Roots.{IsRootWord, AreRoots}
+use Rattle.subtree_outcome.specs.Outcomes.{IsFoundAt}
 use Rattle.tile_walk.specs.Checks.{found_faults, IsOnWalk, Counts, IsCheck}
 use Rattle.tile_coords.specs.Found.{found_of}
 use Rattle.tile_walk.proofs.Words.{child_tiles}
-use Rattle.tile_walk.proofs.Steps.{child_is_root, decoded}
-use Rattle.tile_walk.proofs.Frontier.{begins}
+use Rattle.tile_walk.proofs.Roots.{child_is_root, decoded, first_tiles}
 
 -- the roots above a level are looked at, and those of the level come next
 pub record IsCheckedTo (s : Scene) (level : ℕ) (roots : List ℕ) (looked : ℕ) (found : List FoundFault) : Type 0 where
@@ -87,8 +85,7 @@ pub next_by_words : (s : Scene) (region : Region) (w : ℕ) (st : Subtree) (r : 
     → map (word_tile s.layout.scheme) new ≡ map (word_tile s.layout.scheme) old ++ roots_below s region (word_tile s.layout.scheme w)
 next_by_words s region w st r old new limits found same on is more =
     let f = word_tile s.layout.scheme in
-    let walked : IsWalked s region 0 w = record { on_walk = on; no_fault = λ inner. absurd (inner (zero-mod s.layout.subtree_levels)) } in
-    let made = decoded s region 0 w st r limits found same walked is in
+    let made = decoded s region w st r limits found same on is in
     ap (map f) more ∙ map-append f old (child_words st region)
     ∙ ap (λ ts. map f old ++ ts) (child_tiles s region st made ∙ ap (roots_below s region) (found.at_root ∙ same))
 
@@ -171,6 +168,6 @@ check_is_all s level roots looked found end some high is few same more =
 pub check_begins : (s : Scene) (scheme : Scheme) (roots : List ℕ) (level : ℕ) (found : List FoundFault) → scheme ≡ s.layout.scheme → 1 ≤ s.layout.levels → roots ≡ word scheme root 0 ∷ []
     → level ≡ 0 → found ≡ [] → IsCheckedTo s level roots 0 found
 check_begins s scheme roots level found same some first start none =
-    let at = begins s (whole_of s) scheme roots [] same some (whole_is_a_region s.layout.scheme s.layout.levels) first refl in
+    let tiles = first_tiles s (whole_of s) scheme roots same some (whole_is_a_region s.layout.scheme s.layout.levels) first in
     let P : ℕ → Type 0 = λ l. IsCheckedTo s l roots 0 found in
-    subst P (sym start) (record { faults = none; count = refl; tiles = at.tiles })
+    subst P (sym start) (record { faults = none; count = refl; tiles = tiles })

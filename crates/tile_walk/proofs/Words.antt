@@ -18,8 +18,8 @@ use Rattle.implicit_tiling.specs.Steps.{descendants, ended}
 use Rattle.tile_coords.specs.Ends.{end_seen, end_word, EndsAtRoot}
 use Rattle.tile_coords.specs.declared.walk_end.WalkEnd.{WalkEnd}
 use Rattle.tile_coords.specs.declared.walk_end.WalkEnd.TheVariants.{Partial, Complete, TooMany, Fault}
-use Rattle.availability.specs.Words.{HasWord}
-use Rattle.availability.proofs.Tiles.{words_have_their_parts, parts_have_their_word}
+use Rattle.tile_word.specs.Words.{HasWord}
+use Rattle.tile_word.proofs.Tiles.{words_have_their_parts, parts_have_their_word}
 use Rattle.walk_laws.specs.Decoded.{IsDecoded}
 use Rattle.walk_laws.specs.Children.{roots_below}
 use Rattle.walk_laws.proofs.Lists.{map_same, map-map}
@@ -54,15 +54,3 @@ child_tiles s region st is =
     let P : Scheme → Type 0 = λ e. s.layout.levels ≤ most_levels e in subst P is.of_layout.same_scheme (omega (arith, is.of_layout.same_cut, is.within_limits.few_levels_in_all)) in
     ap (map (word_tile s.layout.scheme)) (sym (child_words_are_root_words s region st is))
     ∙ tiles_of_words s.layout.scheme (roots_below s region st.root) (roots_have_words s region st.root few)
-
--- the end of an answer is that of its words
-same_end : (a b : End) → ended a ≡ ended b → a ≡ b
-same_end a b same = cc
-
-pub end_of_words : (scheme : Scheme) (end : WalkEnd) (e : End) → EndsAtRoot scheme end → end_seen scheme end ≡ ended e → end ≡ end_word scheme e
-end_of_words scheme Partial e root same = cc
-end_of_words scheme Complete e root same = ap (end_word scheme) (same_end complete e same)
-end_of_words scheme TooMany e root same = ap (end_word scheme) (same_end too_many e same)
-end_of_words scheme (Fault w n) e root same =
-    let own : word scheme (word_tile scheme w) 0 ≡ w = ap (word scheme (word_tile scheme w)) (sym root.1) ∙ (parts_have_their_word scheme w root.0).word in
-    ap (λ v. Fault v n) (sym own) ∙ ap (end_word scheme) (same_end (fault (word_tile scheme w) n) e same)

@@ -1,14 +1,8 @@
-//! The walks over the subtrees of a tileset: reading the subtree of a root, the answer for a region with no cache, and the
-//! check of all subtree files. A walk reads the roots of its region alone, and holds its frontier and one subtree at a time.
+//! The check of all subtree files of a tileset: its reached roots are read frontier by frontier, each of them once.
 #![tactic(auto)]
 
-mod level;
-mod outcome;
-mod region;
-mod step;
+mod first;
 mod tileset;
 
-pub use outcome::{Outcome, WalkStop, read_subtree};
-pub use region::fresh;
-pub use step::root_tile;
+pub use first::first_roots;
 pub use tileset::{check_all, whole_plan};

@@ -10,16 +10,15 @@ ghost use Rattle.scene_ports.specs.Counts.{Rose};
 ghost use Rattle.walk_laws.specs.Children.{roots_below};
 ghost use Rattle.walk_laws.specs.Regions.{whole};
 ghost use Rattle.tile_walk.specs.Checks.{found_faults, Counts, IsOnWalk, IsCheck, AreFaults};
-ghost use Rattle.tile_walk.specs.Plans.{FitsLayout};
-ghost use Rattle.tile_walk.specs.Roots.{IsRootWord, AreRoots};
+ghost use Rattle.walk_laws.specs.Plans.{FitsLayout};
+ghost use Rattle.tile_word.specs.Roots.{IsRootWord, AreRoots};
 
-use crate::outcome::{Outcome, WalkStop, read_subtree};
-use crate::region::first_roots;
-use crate::step::root_tile;
+use crate::first::first_roots;
 use availability::Subtree;
 use region_scan::child_roots;
 use scene_ports::FileSource;
 use std::alloc::{AllocError, Global};
+use subtree_outcome::{Outcome, WalkStop, read_subtree, root_tile};
 use tile_coords::{CheckEnd, FoundFault, Plan, Region, Word};
 use tileset_json::Layout;
 

@@ -18,7 +18,7 @@ use Rattle.tiling_laws.proofs.TileAt.{same_tile}
 use Rattle.tiling_laws.proofs.Order.{keys_are_an_order}
 use Rattle.scene_ports.specs.Files.{HasDistinctNames}
 use Rattle.scene_ports.proofs.Named.{file-later, appended_distinct}
-use Rattle.availability.specs.Words.{HasWord}
+use Rattle.tile_word.specs.Words.{HasWord}
 use Rattle.implicit_tiling.specs.Code.{word_tile}
 use Rattle.implicit_tiling.specs.Availability.{is_subtree_root}
 use Rattle.subtree_write.specs.Canonical.{canonical}

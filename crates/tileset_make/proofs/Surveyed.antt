@@ -15,8 +15,8 @@ use Rattle.walk_laws.proofs.Lists.{map-map}
 use Rattle.tile_coords.specs.Ends.{end_seen}
 use Rattle.tile_coords.specs.declared.walk_end.WalkEnd.{WalkEnd}
 use Rattle.tile_coords.specs.declared.walk_end.WalkEnd.TheVariants.{Partial, Complete, TooMany, Fault}
-use Rattle.availability.proofs.Tiles.{parts_have_their_word}
-use Rattle.tile_walk.specs.Walks.{IsAnswer}
+use Rattle.tile_word.proofs.Tiles.{parts_have_their_word}
+use Rattle.tile_word.specs.Answers.{IsAnswer}
 use Rattle.tile_occupancy.specs.Occupied.{tiles_of, IsOccupancy}
 use Rattle.build_laws.specs.Holds.{HoldsTiles}
 use Rattle.build_laws.specs.Laws.{end_after}

@@ -6,7 +6,7 @@ ghost use Rattle.implicit_tiling.specs.Limits.{most_contents};
 ghost use Rattle.implicit_tiling.specs.Code.{word_mask, IsWord};
 ghost use Rattle.implicit_tileset.specs.Scene.{scene_of};
 ghost use Rattle.walk_laws.specs.Regions.{whole};
-ghost use Rattle.tile_walk.specs.Walks.{AreFound, IsAnswer};
+ghost use Rattle.tile_word.specs.Answers.{AreFound, IsAnswer};
 ghost use Rattle.tile_occupancy.specs.Occupied.{IsOccupancy};
 ghost use Rattle.build_laws.specs.Holds.{HoldsTiles};
 ghost use Rattle.tileset_make.specs.Recipes.{recipe_layout, recipe_words, recipe_files, survey_of};
@@ -15,13 +15,14 @@ use crate::found::Survey;
 use crate::layout::layout_of;
 use crate::making::make;
 use crate::recipe::Recipe;
-use availability::mask_of;
 use framed_walk::framed;
 use scene_ports::{FileSource, SureFiles, SureKeeper};
 use std::alloc::{AllocError, Global};
 use tile_builder::{BuildStop, Built};
+use subtree_outcome::WalkStop;
 use tile_coords::{WalkEnd, Word};
-use tile_walk::{WalkStop, whole_plan};
+use tile_walk::whole_plan;
+use tile_word::mask_of;
 use tileset_json::Layout;
 
 // The frames of the walk over all tiles.

@@ -64,7 +64,7 @@ keys_are_an_order scheme = record {
 }
 
 -- lists whose elements stand in an order, pair by pair
-all_pairs_append : {X : Type 0} (R : X → X → Type 0) (xs ys : List X) → AllPairs R xs → AllPairs R ys → All (λ x. All (R x) ys) xs → AllPairs R (xs ++ ys)
+pub all_pairs_append : {X : Type 0} (R : X → X → Type 0) (xs ys : List X) → AllPairs R xs → AllPairs R ys → All (λ x. All (R x) ys) xs → AllPairs R (xs ++ ys)
 all_pairs_append R [] ys first rest cross = rest
 all_pairs_append R (x ∷ xs) ys first rest cross =
     let here : All (R x) xs = λ k d below. first 0 (suc k) d (omega arith) (omega arith) in

@@ -26,7 +26,7 @@ child_is_tile scheme t n h tile =
       flat = flat_child scheme t.z n h tile.flat;
     }
 
-root_is_tile : (scheme : Scheme) → IsTile scheme root
+pub root_is_tile : (scheme : Scheme) → IsTile scheme root
 root_is_tile Quad = record { x_fits = lit< tt; y_fits = lit< tt; z_fits = lit< tt; flat = refl }
 root_is_tile Oct = record { x_fits = lit< tt; y_fits = lit< tt; z_fits = lit< tt; flat = refl }
 

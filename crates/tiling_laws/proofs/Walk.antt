@@ -139,7 +139,7 @@ reached_same layout one other region k r tile within =
     (or_same (r.level == 0) (is_available s (parent r) && child_bit s r) (is_available u (parent r) && child_bit u r) named)
 
 -- lists that tests agree on
-filter_same : {X : Type 0} (p q : X → Bool) (xs : List X) → All (λ x. p x ≡ q x) xs → filter p xs ≡ filter q xs
+pub filter_same : {X : Type 0} (p q : X → Bool) (xs : List X) → All (λ x. p x ≡ q x) xs → filter p xs ≡ filter q xs
 filter_same p q [] h = refl
 filter_same p q (x ∷ xs) h =
     ap (λ b. cond b (x ∷ filter p xs) (filter p xs)) (All-head (λ w. p w ≡ q w) x xs h)

@@ -19,7 +19,8 @@ use Rattle.tiling_laws.proofs.Subtrees.{child_low}
 use Rattle.tiling_laws.proofs.Available.{reached_from, reached_says, available_reached}
 use Rattle.walk_laws.specs.Decoded.{IsDecoded}
 use Rattle.walk_laws.specs.Children.{roots_below}
-use Rattle.walk_laws.proofs.Lists.{filter_same, filter_none, filter-map, filter-flat_map, flat_map_kept, of_range}
+use Rattle.tiling_laws.proofs.Walk.{filter_same}
+use Rattle.walk_laws.proofs.Lists.{filter_none, filter-map, filter-flat_map, flat_map_kept, of_range}
 use Rattle.walk_laws.proofs.Runs.{below, below_index, below_level, below_ancestor, of_descendants, of_level, levels_split}
 use Rattle.walk_laws.proofs.Segments.{on_walk_from, below_root}
 use Rattle.walk_laws.proofs.Plain.{plain, plain_is, IsPlain, below_parent, parent_fits, same_test, available_is_bit}

@@ -14,7 +14,8 @@ use Rattle.implicit_tiling.specs.Code.{word, tile_word}
 use Rattle.implicit_tiling.specs.Nodes.{node_at, indices, is_tile_in, tiles_in, node_word, level_words}
 use Rattle.implicit_tiling.specs.Steps.{descendants, pair_of, segment}
 use Rattle.walk_laws.specs.Decoded.{IsDecoded}
-use Rattle.walk_laws.proofs.Lists.{map_same, map-map, filter_same, filter-map, of_range, range_shifted}
+use Rattle.tiling_laws.proofs.Walk.{filter_same}
+use Rattle.walk_laws.proofs.Lists.{map_same, map-map, filter-map, of_range, range_shifted}
 use Rattle.walk_laws.proofs.Runs.{below}
 use Rattle.walk_laws.proofs.Plain.{plain_is, IsPlain, available_is_bit, mask_is}
 

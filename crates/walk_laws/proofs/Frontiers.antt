@@ -16,7 +16,8 @@ use Rattle.implicit_tiling.specs.Steps.{root_level, walk_roots}
 use Rattle.tiling_laws.proofs.TileAt.{tile_at_is_tile, tile_at_level}
 use Rattle.walk_laws.specs.Children.{roots_below}
 use Rattle.walk_laws.specs.Frontiers.{whole_of, reached_above, reached_at}
-use Rattle.walk_laws.proofs.Lists.{filter_same, filter_none, filter-flat_map, flat_map_none, of_range, range-append}
+use Rattle.tiling_laws.proofs.Walk.{filter_same}
+use Rattle.walk_laws.proofs.Lists.{filter_none, filter-flat_map, flat_map_none, of_range, range-append}
 use Rattle.walk_laws.proofs.Runs.{of_level}
 use Rattle.walk_laws.proofs.Segments.{local_of}
 use Rattle.walk_laws.proofs.Plain.{same_test}

@@ -17,12 +17,6 @@ flat_map_same f g [] h = refl
 flat_map_same f g (x ∷ xs) h =
     ap (λ y. y ++ flat_map f xs) (All-head (λ w. f w ≡ g w) x xs h) ∙ ap (λ ys. g x ++ ys) (flat_map_same f g xs (All-tail (λ w. f w ≡ g w) x xs h))
 
-pub filter_same : {X : Type 0} (p q : X → Bool) (xs : List X) → All (λ x. p x ≡ q x) xs → filter p xs ≡ filter q xs
-filter_same p q [] h = refl
-filter_same p q (x ∷ xs) h =
-    ap (λ b. cond b (x ∷ filter p xs) (filter p xs)) (All-head (λ w. p w ≡ q w) x xs h)
-    ∙ ap (λ w. cond (q x) (x ∷ w) w) (filter_same p q xs (All-tail (λ w. p w ≡ q w) x xs h))
-
 pub filter_none : {X : Type 0} (p : X → Bool) (xs : List X) → All (λ x. p x ≡ false) xs → filter p xs ≡ []
 filter_none p [] h = refl
 filter_none p (x ∷ xs) h =

@@ -13,21 +13,13 @@ use Rattle.implicit_tiling.specs.Availability.{is_available}
 use Rattle.implicit_tiling.specs.Answer.{is_on_walk}
 use Rattle.implicit_tiling.specs.Steps.{Pair, pair_of, pairs, root_level, walk_roots, descendants, segment, fault_at_start, pair_fault}
 use Rattle.tiling_laws.proofs.TileAt.{tile_at_is_tile, tile_at_level, index_of_tile_at}
-use Rattle.tiling_laws.proofs.Order.{below_by_level, below_by_index, below_says, keys_are_an_order}
+use Rattle.tiling_laws.proofs.Order.{all_pairs_append, below_by_level, below_by_index, below_says, keys_are_an_order}
 use Rattle.tiling_laws.proofs.Subtrees.{ancestor_none}
 use Rattle.walk_laws.proofs.Lists.{of_range}
 use Rattle.walk_laws.proofs.Runs.{below, below_level, below_ancestor, of_descendants}
 use Rattle.walk_laws.proofs.Segments.{of_walk_roots}
 
 -- lists whose elements stand in an order, pair by pair
-pub all_pairs_append : {X : Type 0} (R : X → X → Type 0) (xs ys : List X) → AllPairs R xs → AllPairs R ys → All (λ x. All (R x) ys) xs → AllPairs R (xs ++ ys)
-all_pairs_append R [] ys first rest cross = rest
-all_pairs_append R (x ∷ xs) ys first rest cross =
-    let here : All (R x) xs = λ k d below. first 0 (suc k) d (omega arith) (omega arith) in
-    let later : AllPairs R xs = λ i j d low high. first (suc i) (suc j) d (omega arith) (omega arith) in
-    AllPairs-cons R x (xs ++ ys) (All-append (R x) xs ys here (All-head (λ w. All (R w) ys) x xs cross))
-    (all_pairs_append R xs ys later rest (All-tail (λ w. All (R w) ys) x xs cross))
-
 pub all_pairs_map : {X Y : Type 0} (R : Y → Y → Type 0) (f : X → Y) (xs : List X) → AllPairs (λ a b. R (f a) (f b)) xs → AllPairs R (map f xs)
 all_pairs_map R f [] h = λ i j d low high. absurd (omega arith)
 all_pairs_map R f (x ∷ xs) h =

@@ -1,6 +1,7 @@
 pub mod Split
 pub mod Decoded
 pub mod Regions
+pub mod Plans
 pub mod Children
 pub mod Stepped
 pub mod Faults

@@ -1,7 +1,7 @@
 use Rattle.std.proofs.Common.{sym, subst}
 use Rattle.implicit_tiling.specs.Region.{Region}
 use Rattle.walk_laws.proofs.Regions.{accepted_is_a_region}
-use Rattle.tile_walk.specs.Plans.{IsRegionOf}
+use Rattle.walk_laws.specs.Plans.{IsRegionOf}
 use Rattle.framed_walk.proofs.walk.framed.Goals as goal
 
 pub walk-requires-clause-region : goal.walk-requires-clause-region

@@ -4,23 +4,23 @@ use Rattle.implicit_tiling.specs.declared.Scheme.{Scheme}
 use Rattle.implicit_tiling.specs.Files.{Files}
 use Rattle.implicit_tiling.specs.Code.{word_tile}
 use Rattle.implicit_tileset.specs.Scene.{scene_of}
-use Rattle.region_cursor.specs.Cursor.{IsRootKey, key_of, next_root}
-use Rattle.tile_walk.specs.Outcomes.{outcome_seen}
+use Rattle.region_cursor.specs.Cursor.{IsRootKey, cursor_key, next_root}
+use Rattle.subtree_outcome.specs.Outcomes.{outcome_seen}
 use Rattle.tile_coords.specs.Ends.{EndsAtRoot}
-use Rattle.tile_walk.specs.Walks.{IsAnswer}
+use Rattle.tile_word.specs.Answers.{IsAnswer}
 use Rattle.region_cursor.proofs.Callers.{walk_stays, next_root_of_key, outcome_fits, read_whole}
-use Rattle.tile_walk.proofs.Reading.{of_told, both_told}
+use Rattle.subtree_outcome.proofs.Reading.{of_told, both_told}
 use Rattle.framed_walk.specs.Frames.{IsHeld}
-use Rattle.framed_walk.specs.Walked.{HasWalked}
+use Rattle.region_cursor.specs.Joined.{HasWalked}
 use Rattle.framed_walk.proofs.Turns.{seen, at_rest_again}
-use Rattle.framed_walk.proofs.Steps.{leaves_after, found_more, not_partial, goes_on, is_answer}
+use Rattle.region_cursor.proofs.Joined.{leaves_after, found_more, not_partial, goes_on, is_answer}
 use Rattle.framed_walk.proofs.walk.walk.Goals as goal
 
 pub step-requires-clause-fits : goal.step-requires-clause-fits
 step-requires-clause-fits g c =
     let inv = c.loop-next.invariant in
     let cursor = c.loop-next.cursor in
-    let at : key_of cursor ≡ Some c.in-Some.key = sym inv.next_is ∙ c.in-Some.is in
+    let at : cursor_key cursor ≡ Some c.in-Some.key = sym inv.next_is ∙ c.in-Some.is in
     let root = subst (λ o. IfSome o (IsRootKey cursor)) c.in-Some.is inv.root in
     let outcome = seen c.args.layout.now (g.S.FileSource.told c.loop-next.files) c.hold.new.pool c.in-Some.key c.in_ok-frame.frame c.look.result.now c.in_ok-frame.ensures.held c.look.ensures in
     outcome_fits c.args.layout.now c.args.cursor.now.region cursor c.in-Some.key c.look.result.now inv.of_layout at root outcome.read
@@ -29,7 +29,7 @@ pub loop-next-smaller : goal.loop-next-smaller
 loop-next-smaller g c =
     let inv = c.loop-next.invariant in
     let cursor = c.loop-next.cursor in
-    let at : key_of cursor ≡ Some c.in-Some.key = sym inv.next_is ∙ c.in-Some.is in
+    let at : cursor_key cursor ≡ Some c.in-Some.key = sym inv.next_is ∙ c.in-Some.is in
     let left = leaves_after cursor c.step.new.self c.look.result.now c.in-Some.key c.step.new.words.items at inv.within c.in_ok-end.ensures.after c.in_ok-end.ensures.words in
     left.lower 18446744073709551616 c.next_key-next-in-Some.ensures.few
 
@@ -44,7 +44,7 @@ loop-next-preserved g c =
     let words = c.loop-next.words.items in
     let more = c.step.new.words.items in
     let all = c.extend_from_slice.new.self.items in
-    let at : key_of cursor ≡ Some c.in-Some.key = sym inv.next_is ∙ c.in-Some.is in
+    let at : cursor_key cursor ≡ Some c.in-Some.key = sym inv.next_is ∙ c.in-Some.is in
     let held = subst (λ (t : Option Files). IsHeld layout t c.in-Some.key c.in_ok-frame.frame c.hold.new.pool) inv.same c.in_ok-frame.ensures.held in
     let outcome = seen layout told c.hold.new.pool c.in-Some.key c.in_ok-frame.frame c.look.result.now held c.look.ensures in
     let left = leaves_after cursor after c.look.result.now c.in-Some.key more at inv.within c.in_ok-end.ensures.after c.in_ok-end.ensures.words in
@@ -65,7 +65,7 @@ loop-next-preserved g c =
           c.in_ok-end.ensures.are_words c.in_ok-end.ensures.few is;
       end_is = subst (λ (e : Scheme). EndsAtRoot e c.in_ok-end.end) inv.of_layout.same_scheme c.in_ok-end.ensures.root;
       over = λ none partial. not_partial cursor c.look.result.now (sym c.in_ok-end.ensures.end ∙ partial)
-          (ap key_of (sym c.in_ok-end.ensures.after) ∙ sym c.next_key-next-in-Some.ensures.key ∙ none);
+          (ap cursor_key (sym c.in_ok-end.ensures.after) ∙ sym c.next_key-next-in-Some.ensures.key ∙ none);
       walked =
           both_told told
           (λ files. HasWalked (scene_of files layout) region cursor c.loop-next.next words c.loop-next.end)

@@ -2,11 +2,11 @@ use Rattle.std.proofs.Common.{◌≡◌, ◌≤◌, ◌<◌, ◌+◌, ◌-◌, �
 use Rattle.std.specs.Prelude.{IfSome, ◌≢◌}
 use Rattle.implicit_tileset.specs.Scene.{scene_of}
 use Rattle.tile_coords.specs.declared.walk_end.WalkEnd.TheVariants.{Partial}
-use Rattle.region_cursor.specs.Cursor.{IsWalkOf, IsRootKey, key_of}
+use Rattle.region_cursor.specs.Cursor.{IsWalkOf, IsRootKey, cursor_key}
 use Rattle.tile_coords.specs.Ends.{EndsAtRoot}
-use Rattle.tile_walk.specs.Walks.{AreFound}
+use Rattle.tile_word.specs.Answers.{AreFound}
 use Rattle.framed_walk.specs.Frames.{AreAtRest}
-use Rattle.framed_walk.specs.Walked.{HasWalked}
+use Rattle.region_cursor.specs.Joined.{HasWalked}
 use Rattle.framed_walk.proofs.walk.walk.Given as goal
 
 abbrev pub invariant-loop-next : goal.invariant-loop-next
@@ -15,7 +15,7 @@ invariant-loop-next g l = record {
   of_layout : IsWalkOf l.fn.layout l.fn.cursor.region l.cursor;
   within : l.cursor.level ≤ l.cursor.region.level;
   count : l.cursor.count ≡ length l.words.items;
-  next_is : l.next ≡ key_of l.cursor;
+  next_is : l.next ≡ cursor_key l.cursor;
   root : IfSome l.next (IsRootKey l.cursor);
   few : length l.cursor.roots < 2 ^ 64;
   found : AreFound l.fn.layout.scheme l.words.items;

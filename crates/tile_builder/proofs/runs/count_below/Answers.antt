@@ -2,7 +2,7 @@ use Rattle.std.proofs.Common.{◌≡◌, true, rules}
 use Rattle.std.specs.Prelude.{false, nat_lt}
 use Rattle.std.specs.List.Sorted.{IsPartitionPoint}
 use Rattle.std.proofs.lemmas.List.Sorted.{IsPartitionPoint-from_clause, IsPartitionedBy-ltb}
-use Rattle.availability.specs.Words.{word_key}
+use Rattle.tile_word.specs.Words.{word_key}
 use Rattle.tile_builder.proofs.Cuts.{all_lower, none_lower}
 use Rattle.tile_builder.proofs.runs.count_below.Goals as goal
 

@@ -1,7 +1,7 @@
 use Rattle.std.proofs.Common.{◌+◌, ◌*◌, refl, sym, ap, ◌∙◌, arith}
 use Rattle.implicit_tiling.specs.Tile.{Tile}
 use Rattle.tiling_laws.proofs.TileAt.{tile_at_level}
-use Rattle.availability.proofs.Tiles.{fits_at}
+use Rattle.tile_word.proofs.Tiles.{fits_at}
 use Rattle.tile_builder.proofs.Below.{index_fits}
 use Rattle.tile_builder.proofs.runs.first_key.Goals as goal
 

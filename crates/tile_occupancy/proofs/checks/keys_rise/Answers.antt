@@ -1,6 +1,6 @@
 use Rattle.std.proofs.Common.{rules, nat_lt}
 use Rattle.std.proofs.lemmas.List.Sorted.{answers_always}
-use Rattle.availability.specs.Words.{word_key}
+use Rattle.tile_word.specs.Words.{word_key}
 use Rattle.tile_occupancy.proofs.Keys.{rising_is_decided}
 use Rattle.tile_occupancy.proofs.checks.keys_rise.Goals as goal
 

@@ -2,7 +2,7 @@ use Rattle.std.proofs.Common.{Bool, subst, sym, rules}
 use Rattle.std.specs.Bool.{Decides}
 use Rattle.std.specs.List.{Contains}
 use Rattle.std.proofs.lemmas.List.Sorted.{answers_always}
-use Rattle.availability.specs.Words.{word_key}
+use Rattle.tile_word.specs.Words.{word_key}
 use Rattle.tile_occupancy.specs.Occupied.{tiles_of}
 use Rattle.tile_occupancy.proofs.Keys.{search_decides}
 use Rattle.tile_occupancy.proofs.search.has_tile.Goals as goal

@@ -9,8 +9,8 @@ use Rattle.implicit_tileset.specs.Scene.{scene_of}
 use Rattle.walk_laws.specs.Children.{roots_below}
 use Rattle.walk_laws.specs.Frontiers.{whole_of}
 use Rattle.tile_walk.specs.Checks.{IsOnWalk, found_faults, Counts}
-use Rattle.tile_walk.proofs.Reading.{both_told, three_told, of_told, told_same}
-use Rattle.tile_walk.proofs.Frontier.{on_walk}
+use Rattle.subtree_outcome.proofs.Reading.{both_told, three_told, of_told, told_same}
+use Rattle.tile_walk.proofs.Roots.{on_walk}
 use Rattle.tile_walk.proofs.Checking.{IsCheckedTo, check_is_cut, check_goes_on, check_is_all, roots_at}
 use Rattle.tile_walk.proofs.tileset.check.Goals as goal
 

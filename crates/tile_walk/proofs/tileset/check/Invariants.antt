@@ -2,7 +2,7 @@ use Rattle.std.proofs.Common.{◌≡◌, ◌*◌, ◌≤◌}
 use Rattle.std.specs.Prelude.{IfSome}
 use Rattle.implicit_tiling.specs.Checked.{most_roots}
 use Rattle.implicit_tileset.specs.Scene.{scene_of}
-use Rattle.tile_walk.specs.Roots.{AreRoots}
+use Rattle.tile_word.specs.Roots.{AreRoots}
 use Rattle.tile_walk.specs.Checks.{AreFaults}
 use Rattle.tile_walk.proofs.Checking.{IsCheckedTo}
 use Rattle.tile_walk.proofs.tileset.check.Given as goal

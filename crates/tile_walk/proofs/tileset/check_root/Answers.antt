@@ -1,9 +1,9 @@
 use Rattle.std.proofs.Common.{◌≡◌, ◌∙◌, ap, arith}
 use Rattle.implicit_tiling.specs.Tile.{Tile}
 use Rattle.implicit_tileset.specs.Scene.{scene_of}
-use Rattle.tile_walk.specs.Outcomes.{outcome_seen}
+use Rattle.subtree_outcome.specs.Outcomes.{outcome_seen}
 use Rattle.tile_walk.specs.Checks.{IsOnWalk}
-use Rattle.tile_walk.proofs.Reading.{both_told, of_told}
+use Rattle.subtree_outcome.proofs.Reading.{both_told, of_told}
 use Rattle.tile_walk.proofs.Checking.{one_fault, no_next, next_by_words, next_are_roots}
 use Rattle.tile_walk.proofs.tileset.check_root.Goals as goal
 

@@ -4,8 +4,8 @@ use Rattle.implicit_tiling.specs.Code.{word_tile}
 use Rattle.implicit_tileset.specs.Scene.{scene_of}
 use Rattle.walk_laws.specs.Children.{roots_below}
 use Rattle.tile_walk.specs.Checks.{IsOnWalk, found_faults}
-use Rattle.tile_walk.proofs.Reading.{both_told, of_told, told_same}
-use Rattle.tile_walk.proofs.Walks.{one_next_more}
+use Rattle.subtree_outcome.proofs.Reading.{both_told, of_told, told_same}
+use Rattle.tile_walk.proofs.Roots.{one_next_more}
 use Rattle.tile_walk.proofs.Checking.{found_faults-more, roots_at}
 use Rattle.tile_walk.proofs.tileset.check_roots.Goals as goal
 

@@ -5,7 +5,7 @@ use Rattle.implicit_tiling.specs.Checked.{most_roots}
 use Rattle.implicit_tiling.specs.Code.{word_tile}
 use Rattle.implicit_tileset.specs.Scene.{scene_of}
 use Rattle.walk_laws.specs.Children.{roots_below}
-use Rattle.tile_walk.specs.Roots.{AreRoots}
+use Rattle.tile_word.specs.Roots.{AreRoots}
 use Rattle.tile_walk.specs.Checks.{found_faults, AreFaults}
 use Rattle.tile_walk.proofs.tileset.check_roots.Given as goal
 

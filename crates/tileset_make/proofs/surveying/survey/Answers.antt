@@ -6,7 +6,7 @@ use Rattle.implicit_tiling.specs.Scene.{Layout}
 use Rattle.implicit_tileset.specs.Scene.{scene_of}
 use Rattle.walk_laws.specs.Regions.{whole}
 use Rattle.scene_ports.specs.Files.{files_of}
-use Rattle.tile_walk.specs.Walks.{IsAnswer}
+use Rattle.tile_word.specs.Answers.{IsAnswer}
 use Rattle.tileset_make.specs.Recipes.{recipe_layout, recipe_words}
 use Rattle.tileset_make.proofs.Surveyed.{found, cut_if}
 use Rattle.tileset_make.proofs.surveying.survey.Goals as goal

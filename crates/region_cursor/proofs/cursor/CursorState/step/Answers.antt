@@ -3,10 +3,10 @@ use Rattle.std.specs.List.{All}
 use Rattle.std.proofs.lemmas.List.Elements.{All-same}
 use Rattle.std.proofs.lemmas.Result.{IfOk-weaker}
 use Rattle.implicit_tiling.specs.Scene.{Scene}
-use Rattle.tile_walk.specs.declared.outcome.Outcome.TheVariants.{Good, Bad}
+use Rattle.subtree_outcome.specs.declared.outcome.Outcome.TheVariants.{Good, Bad}
 use Rattle.region_cursor.specs.Cursor.{next_root, IsTileWord, Fits, HasNoOrphan}
 use Rattle.region_cursor.specs.Moves.{made_good}
-use Rattle.tile_walk.specs.Outcomes.{outcome_seen}
+use Rattle.subtree_outcome.specs.Outcomes.{outcome_seen}
 use Rattle.region_cursor.specs.Walked.{IsAt, GivesStep}
 use Rattle.region_cursor.proofs.Results.{if_all}
 use Rattle.region_cursor.proofs.Words.{words_of_step}

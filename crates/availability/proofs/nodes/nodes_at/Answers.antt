@@ -1,5 +1,0 @@
-use Rattle.availability.proofs.Levels.{shift_is_nodes}
-use Rattle.availability.proofs.nodes.nodes_at.Goals as goal
-
-pub returns : goal.returns
-returns c = shift_is_nodes c.args.scheme c.axes.result c.args.level c.axes.ensures c.requires

@@ -1,0 +1,62 @@
+use Rattle.std.proofs.Common.{◌≡◌, ◌+◌, ◌++◌, ◌∷◌, [], ◌∙◌, map, take, take_all, get_or, ap, subst, arith}
+use Rattle.std.specs.List.{flat_map}
+use Rattle.implicit_tiling.specs.Code.{word_tile}
+use Rattle.implicit_tileset.specs.Scene.{scene_of}
+use Rattle.tile_coords.specs.declared.walk_end.WalkEnd.{WalkEnd}
+use Rattle.tile_coords.specs.declared.walk_end.WalkEnd.TheVariants.{Partial}
+use Rattle.reference_walk.specs.Walks.{GoesOn, Walks, word_pair, next_roots}
+use Rattle.subtree_outcome.proofs.Reading.{both_told, of_told, told_same, told_always}
+use Rattle.tile_walk.proofs.Roots.{one_next_more}
+use Rattle.reference_walk.proofs.Walks.{one_root_more, ends_in_level}
+use Rattle.reference_walk.proofs.level.walk_level.Goals as goal
+
+pub loop-root-preserved : goal.loop-root-preserved
+loop-root-preserved g c =
+    let layout = c.args.layout.now in
+    let region = c.args.region.now in
+    let pair = word_pair layout.scheme c.args.level in
+    let root = get_or c.args.roots.now c.loop-root.root-index 0 in
+    record {
+      walks = both_told (g.S.FileSource.told c.args.files.now)
+          (λ all. GoesOn (scene_of all layout) region (map pair (take c.loop-root.root-index c.args.roots.now)) c.args.words.now.items c.loop-root.words.items)
+          (λ all. Walks (scene_of all layout) region (pair root ∷ []) c.loop-root.words.items c.step.new.words.items c.in_ok-end.end) _
+          (λ all on is. let P : WalkEnd → Type 0 = Walks (scene_of all layout) region (map pair (take (c.loop-root.root-index + 1) c.args.roots.now)) c.args.words.now.items c.step.new.words.items in
+          subst P c.in-Partial.is
+          (one_root_more (scene_of all layout) region pair c.args.roots.now c.loop-root.root-index c.args.words.now.items c.loop-root.words.items c.step.new.words.items c.in_ok-end.end
+          (omega arith) on is)) c.loop-root.invariant.walks
+          (told_same (g.S.FileSource.told c.loop-root.files) (g.S.FileSource.told c.args.files.now) _ c.loop-root.invariant.same c.in_ok-end.ensures.walks);
+      roots_on = both_told (g.S.FileSource.told c.args.files.now)
+          (λ all. map (word_tile layout.scheme) c.loop-root.next.items ≡ map (word_tile layout.scheme) c.args.next.now.items
+          ++ flat_map (λ w. next_roots (scene_of all layout) region c.args.level (word_tile layout.scheme w)) (take c.loop-root.root-index c.args.roots.now))
+          (λ all. c.in_ok-end.end ≡ Partial → map (word_tile layout.scheme) c.step.new.next.items ≡ map (word_tile layout.scheme) c.loop-root.next.items
+          ++ next_roots (scene_of all layout) region c.args.level (word_tile layout.scheme root)) _
+          (λ all on more. one_next_more (word_tile layout.scheme) (λ w. next_roots (scene_of all layout) region c.args.level (word_tile layout.scheme w)) c.args.roots.now
+          c.args.next.now.items c.loop-root.next.items c.step.new.next.items c.loop-root.root-index (omega arith) on (more c.in-Partial.is)) c.loop-root.invariant.roots_on
+          (told_same (g.S.FileSource.told c.loop-root.files) (g.S.FileSource.told c.args.files.now) _ c.loop-root.invariant.same c.in_ok-end.ensures.roots);
+      found = c.in_ok-end.ensures.found;
+      next = c.in_ok-end.ensures.next;
+      later = omega (arith, c.loop-root.invariant.later, c.step.ensures.later);
+      same = c.step.ensures.same ∙ c.loop-root.invariant.same;
+    }
+
+pub returns-in_default-clause-walks : goal.returns-in_default-clause-walks
+returns-in_default-clause-walks g c =
+    let layout = c.args.layout.now in
+    let region = c.args.region.now in
+    let pair = word_pair layout.scheme c.args.level in
+    let root = get_or c.args.roots.now c.loop-root.root-index 0 in
+    both_told (g.S.FileSource.told c.args.files.now)
+    (λ all. GoesOn (scene_of all layout) region (map pair (take c.loop-root.root-index c.args.roots.now)) c.args.words.now.items c.loop-root.words.items)
+    (λ all. Walks (scene_of all layout) region (pair root ∷ []) c.loop-root.words.items c.step.new.words.items c.in_ok-end.end) _
+    (λ all on is. ends_in_level (scene_of all layout) region pair c.args.roots.now c.loop-root.root-index c.args.words.now.items c.loop-root.words.items c.step.new.words.items
+    c.in_ok-end.end (omega arith) c.in_default.not-Partial on is) c.loop-root.invariant.walks
+    (told_same (g.S.FileSource.told c.loop-root.files) (g.S.FileSource.told c.args.files.now) _ c.loop-root.invariant.same c.in_ok-end.ensures.walks)
+
+pub returns-in_default-clause-roots : goal.returns-in_default-clause-roots
+returns-in_default-clause-roots g c = told_always (g.S.FileSource.told c.args.files.now) _ (λ all goes. absurd (c.in_default.not-Partial goes))
+
+pub returns-clause-roots : goal.returns-clause-roots
+returns-clause-roots g c =
+    let layout = c.args.layout.now in
+    of_told (g.S.FileSource.told c.args.files.now) _ _ (λ all on goes. on ∙ ap (λ ws. map (word_tile layout.scheme) c.args.next.now.items
+    ++ flat_map (λ w. next_roots (scene_of all layout) c.args.region.now c.args.level (word_tile layout.scheme w)) ws) (take_all _ _ (omega arith))) c.loop-root.invariant.roots_on

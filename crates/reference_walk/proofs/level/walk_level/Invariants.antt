@@ -1,0 +1,22 @@
+use Rattle.std.proofs.Common.{◌≡◌, ◌+◌, ◌≤◌, ◌++◌, take, map}
+use Rattle.std.specs.Prelude.{IfSome}
+use Rattle.std.specs.List.{flat_map}
+use Rattle.implicit_tiling.specs.Code.{word_tile}
+use Rattle.implicit_tileset.specs.Scene.{scene_of}
+use Rattle.tile_word.specs.Roots.{AreRoots}
+use Rattle.tile_word.specs.Answers.{AreFound}
+use Rattle.reference_walk.specs.Walks.{GoesOn, word_pair, next_roots}
+use Rattle.reference_walk.proofs.level.walk_level.Given as goal
+
+abbrev pub invariant-loop-root : goal.invariant-loop-root
+invariant-loop-root g l = record {
+  walks : IfSome (g.S.FileSource.told l.fn.files)
+      (λ all. GoesOn (scene_of all l.fn.layout) l.fn.region (map (word_pair l.fn.layout.scheme l.fn.level) (take l.root-index l.fn.roots)) l.fn.words.items l.words.items);
+  roots_on : IfSome (g.S.FileSource.told l.fn.files)
+      (λ all. map (word_tile l.fn.layout.scheme) l.next.items ≡ map (word_tile l.fn.layout.scheme) l.fn.next.items
+      ++ flat_map (λ w. next_roots (scene_of all l.fn.layout) l.fn.region l.fn.level (word_tile l.fn.layout.scheme w)) (take l.root-index l.fn.roots));
+  found : AreFound l.fn.layout.scheme l.words.items;
+  next : AreRoots l.fn.layout (l.fn.level + 1) l.next.items;
+  later : g.S.FileSource.faults l.fn.files ≤ g.S.FileSource.faults l.files;
+  same : g.S.FileSource.told l.files ≡ g.S.FileSource.told l.fn.files;
+}

@@ -1,0 +1,17 @@
+use Rattle.std.proofs.Common.{◌≡◌, ◌≤◌}
+use Rattle.std.specs.Prelude.{IfSome}
+use Rattle.implicit_tiling.specs.Steps.{root_level}
+use Rattle.implicit_tileset.specs.Scene.{scene_of}
+use Rattle.tile_word.specs.Roots.{AreRoots}
+use Rattle.tile_word.specs.Answers.{AreFound}
+use Rattle.reference_walk.proofs.Frontier.{IsAt}
+use Rattle.reference_walk.proofs.region.walk.Given as goal
+
+abbrev pub invariant-loop-level : goal.invariant-loop-level
+invariant-loop-level g l = record {
+  at : IfSome (g.S.FileSource.told l.fn.files) (λ all. IsAt (scene_of all l.fn.layout) l.fn.region l.level l.roots.items l.words.items);
+  roots_are : AreRoots l.fn.layout (root_level l.fn.layout l.level) l.roots.items;
+  found : AreFound l.fn.layout.scheme l.words.items;
+  later : g.S.FileSource.faults l.fn.files ≤ g.S.FileSource.faults l.files;
+  same : g.S.FileSource.told l.files ≡ g.S.FileSource.told l.fn.files;
+}

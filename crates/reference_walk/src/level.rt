@@ -1,0 +1,51 @@
+// One level of a walk.
+ghost use Rattle.std.specs.Prelude.{◌≡◌, ◌+◌, ◌≤◌, ◌++◌, map, true, IfOk, IfSome, Ok, Err};
+ghost use Rattle.std.specs.List.{All, flat_map};
+ghost use Rattle.implicit_tiling.specs.Code.{word_tile};
+ghost use Rattle.implicit_tiling.specs.Steps.{root_level};
+ghost use Rattle.implicit_tileset.specs.Scene.{scene_of};
+ghost use Rattle.scene_ports.specs.Counts.{Rose};
+ghost use Rattle.tile_coords.specs.Ends.{EndsAtRoot};
+ghost use Rattle.tile_word.specs.Roots.{AreRoots};
+ghost use Rattle.tile_word.specs.Answers.{AreFound};
+ghost use Rattle.reference_walk.specs.Walks.{Walks, word_pair, next_roots, IsWalked};
+
+use crate::step::step;
+use scene_ports::FileSource;
+use std::alloc::Global;
+use subtree_outcome::WalkStop;
+use tile_coords::{Region, WalkEnd, Word};
+use tileset_json::Layout;
+
+/// The steps of one level of a walk, root by root.
+pub(crate) fn walk_level<S: FileSource>(
+    alloc: Global,
+    files: &mut S,
+    layout: &Layout,
+    region: &Region,
+    level: u32,
+    roots: &[Word],
+    words: &mut Vec<Word>,
+    next: &mut Vec<Word>,
+) -> Result<WalkEnd, WalkStop>
+    requires roots { AreRoots layout.now (root_level layout.now level) roots.now }
+    requires found { AreFound layout.now.scheme words.old.items }
+    requires next { AreRoots layout.now (level + 1) next.old.items }
+    requires on_walk { IfSome (S.told files.old) (λ all. All (IsWalked (scene_of all layout.now) region.now level) roots.now) }
+    ensures walks { IfSome (S.told files.old) (λ all. IfOk result (Walks (scene_of all layout.now) region.now (map (word_pair layout.now.scheme level) roots.now) words.old.items words.new.items)) }
+    ensures roots { IfSome (S.told files.old) (λ all. IfOk result (λ end. end ≡ WalkEnd.Partial → map (word_tile layout.now.scheme) next.new.items ≡ map (word_tile layout.now.scheme) next.old.items ++ flat_map (λ w. next_roots (scene_of all layout.now) region.now level (word_tile layout.now.scheme w)) roots.now)) }
+    ensures found { IfOk result (λ end. AreFound layout.now.scheme words.new.items) }
+    ensures next { IfOk result (λ end. AreRoots layout.now (level + 1) next.new.items) }
+    ensures end { IfOk result (EndsAtRoot layout.now.scheme) }
+    ensures failed { result ≡ Err WalkStop.ReadFault → Rose (S.faults files.old) (S.faults files.new) }
+    ensures later { S.faults files.old ≤ S.faults files.new }
+    ensures same { S.told files.new ≡ S.told files.old }
+{
+    for root in roots {
+        match step(alloc, files, layout, region, level, *root, words, next)? {
+            WalkEnd::Partial => {}
+            end => return Ok(end),
+        }
+    }
+    Ok(WalkEnd::Partial)
+}

@@ -1,0 +1,87 @@
+// The walk of a region.
+ghost use Rattle.std.specs.Prelude.{◌≡◌, ◌≢◌, ◌≤◌, IfOk, IfErr, IfSome, Err, []};
+ghost use Rattle.implicit_tileset.specs.Scene.{scene_of};
+ghost use Rattle.scene_ports.specs.Counts.{Rose};
+ghost use Rattle.tile_coords.specs.Ends.{EndsAtRoot};
+ghost use Rattle.walk_laws.specs.Plans.{FitsLayout, IsRegionOf};
+ghost use Rattle.tile_word.specs.Answers.{AreFound, IsAnswer};
+ghost use Rattle.reference_walk.specs.Walks.{frontier_if, is_last};
+
+use crate::level::walk_level;
+use scene_ports::FileSource;
+use std::alloc::Global;
+use subtree_outcome::WalkStop;
+use tile_coords::{Plan, Region, WalkEnd, Word};
+use tile_walk::first_roots;
+use tileset_json::Layout;
+
+/// The answer for a plan that fits the layout, read anew: `words` becomes the words of its tiles in key order, at most
+/// 65,536, and the end is that of the answer, so never Partial (OGC 22-025r4, implicit tiling: availability). Each root
+/// on the walk is read once for each level that its subtree gives, and none after the cut or the first fault is known.
+/// An Err leaves `words` as it was.
+pub fn fresh<S: FileSource>(
+    alloc: Global,
+    files: &mut S,
+    layout: &Layout,
+    plan: &Plan,
+    words: &mut Vec<Word>,
+) -> Result<WalkEnd, WalkStop>
+    requires { FitsLayout layout.now plan.now }
+    ensures answer { IfSome (S.told files.old) (λ all. IfOk result (IsAnswer (scene_of all layout.now) plan.now.region words.new.items)) }
+    ensures found { IfOk result (λ end. AreFound layout.now.scheme words.new.items) }
+    ensures end { IfOk result (EndsAtRoot layout.now.scheme) }
+    ensures over { IfOk result (λ end. end ≢ WalkEnd.Partial) }
+    ensures unchanged { IfErr result (λ stop. words.new.items ≡ words.old.items) }
+    ensures failed { result ≡ Err WalkStop.ReadFault → Rose (S.faults files.old) (S.faults files.new) }
+    ensures later { S.faults files.old ≤ S.faults files.new }
+    ensures same { S.told files.new ≡ S.told files.old }
+{
+    let mut found = Vec::new(alloc);
+    let end = walk(alloc, files, layout, &plan.region, &mut found)?;
+    *words = found;
+    Ok(end)
+}
+
+// The walk of a region, level by level: the frontier is the roots on the walk whose subtrees have the level.
+fn walk<S: FileSource>(
+    alloc: Global,
+    files: &mut S,
+    layout: &Layout,
+    region: &Region,
+    words: &mut Vec<Word>,
+) -> Result<WalkEnd, WalkStop>
+    requires region { IsRegionOf layout.now region.now }
+    requires empty { words.old.items ≡ [] }
+    ensures answer { IfSome (S.told files.old) (λ all. IfOk result (IsAnswer (scene_of all layout.now) region.now words.new.items)) }
+    ensures found { IfOk result (λ end. AreFound layout.now.scheme words.new.items) }
+    ensures end { IfOk result (EndsAtRoot layout.now.scheme) }
+    ensures over { IfOk result (λ end. end ≢ WalkEnd.Partial) }
+    ensures failed { result ≡ Err WalkStop.ReadFault → Rose (S.faults files.old) (S.faults files.new) }
+    ensures later { S.faults files.old ≤ S.faults files.new }
+    ensures same { S.told files.new ≡ S.told files.old }
+{
+    let mut roots = first_roots(alloc, layout.scheme)?;
+    for level in 0..region.level + 1 {
+        let mut next = Vec::new(alloc);
+        match walk_level(
+            alloc, files, layout, region, level, &roots, words, &mut next,
+        )? {
+            WalkEnd::Partial => {}
+            end => return Ok(end),
+        }
+        roots = frontier(layout, level, roots, next);
+    }
+    Ok(WalkEnd::Complete)
+}
+
+// The frontier of the level after this one: the roots that were found, where it begins new subtrees.
+fn frontier(layout: &Layout, level: u32, roots: Vec<Word>, next: Vec<Word>) -> Vec<Word>
+    ensures { result.items ≡ frontier_if (is_last layout.now level) roots.items next.items }
+{
+    let levels = layout.subtree_levels;
+    if level % levels + 1 == levels {
+        next
+    } else {
+        roots
+    }
+}

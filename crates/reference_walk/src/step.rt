@@ -1,0 +1,87 @@
+// One local level of one subtree.
+ghost use Rattle.std.specs.Prelude.{◌≡◌, ◌+◌, ◌%◌, ◌<◌, ◌≤◌, ◌++◌, ◌∷◌, [], map, true, IfOk, IfSome, Ok, Err, length};
+ghost use Rattle.implicit_tiling.specs.Answer.{most_tiles};
+ghost use Rattle.implicit_tiling.specs.Code.{word_tile as word_tile_of};
+ghost use Rattle.implicit_tiling.specs.Subtree.{IsSubtree};
+ghost use Rattle.implicit_tiling.specs.Steps.{root_level};
+ghost use Rattle.implicit_tileset.specs.Scene.{scene_of};
+ghost use Rattle.scene_ports.specs.Counts.{Rose};
+ghost use Rattle.tile_coords.specs.Ends.{EndsAtRoot};
+ghost use Rattle.reference_walk.specs.Appended.{Appends};
+ghost use Rattle.tile_word.specs.Roots.{IsRootWord, AreRoots};
+ghost use Rattle.tile_word.specs.Answers.{AreFound};
+ghost use Rattle.reference_walk.specs.Walks.{Walks, word_pair, next_roots, IsWalked};
+
+use availability::Subtree;
+use region_scan::{child_roots, level_tiles};
+use scene_ports::FileSource;
+use std::alloc::{AllocError, Global};
+use subtree_outcome::{Outcome, WalkStop, read_subtree, root_tile};
+use tile_coords::{Region, WalkEnd, Word};
+use tileset_json::Layout;
+
+// The most tiles of an answer (this project's own).
+const MOST_TILES: usize = 65536;
+
+/// One step of a walk: reads the subtree of a root, and appends the words of its tiles of one level of the tileset. In the
+/// last level of the subtree it also appends its child roots to `next`. The walk goes on where the end is Partial. An Err,
+/// and any other end, leave `next` with any roots.
+pub(crate) fn step<S: FileSource>(
+    alloc: Global,
+    files: &mut S,
+    layout: &Layout,
+    region: &Region,
+    level: u32,
+    root: Word,
+    words: &mut Vec<Word>,
+    next: &mut Vec<Word>,
+) -> Result<WalkEnd, WalkStop>
+    requires root { IsRootWord layout.now (root_level layout.now level) root }
+    requires found { AreFound layout.now.scheme words.old.items }
+    requires next { AreRoots layout.now (level + 1) next.old.items }
+    requires on_walk { IfSome (S.told files.old) (λ all. IsWalked (scene_of all layout.now) region.now level root) }
+    ensures walks { IfSome (S.told files.old) (λ all. IfOk result (Walks (scene_of all layout.now) region.now (word_pair layout.now.scheme level root ∷ []) words.old.items words.new.items)) }
+    ensures roots { IfSome (S.told files.old) (λ all. IfOk result (λ end. end ≡ WalkEnd.Partial → map (word_tile_of layout.now.scheme) next.new.items ≡ map (word_tile_of layout.now.scheme) next.old.items ++ next_roots (scene_of all layout.now) region.now level (word_tile_of layout.now.scheme root))) }
+    ensures found { IfOk result (λ end. AreFound layout.now.scheme words.new.items) }
+    ensures next { IfOk result (λ end. AreRoots layout.now (level + 1) next.new.items) }
+    ensures end { IfOk result (EndsAtRoot layout.now.scheme) }
+    ensures failed { result ≡ Err WalkStop.ReadFault → Rose (S.faults files.old) (S.faults files.new) }
+    ensures later { S.faults files.old ≤ S.faults files.new }
+    ensures same { S.told files.new ≡ S.told files.old }
+{
+    let tile = root_tile(layout, root);
+    match read_subtree(alloc, files, layout, tile)? {
+        Outcome::Bad(number) => Ok(WalkEnd::Fault { root, number }),
+        Outcome::Good(subtree) => {
+            let local = level % layout.subtree_levels;
+            let end = append(&subtree, region, local, words, next)?;
+            Ok(end)
+        }
+    }
+}
+
+// Appends the words of a local level's tiles in the region, as far as an answer holds them, and in the last level the child
+// roots.
+fn append(
+    subtree: &Subtree,
+    region: &Region,
+    local: u32,
+    words: &mut Vec<Word>,
+    next: &mut Vec<Word>,
+) -> Result<WalkEnd, AllocError>
+    requires local { local < subtree.now.levels }
+    requires few { length words.old.items ≤ most_tiles }
+    ensures within_limits { IsSubtree subtree.now }
+    ensures appended { IfOk result (Appends subtree.now region.now local words.old.items words.new.items next.old.items next.new.items) }
+{
+    let last = subtree.levels - 1;
+    let room = MOST_TILES - words.len();
+    if level_tiles(subtree, local, region, room, words)? {
+        return Ok(WalkEnd::TooMany);
+    }
+    if local < last {
+        return Ok(WalkEnd::Partial);
+    }
+    child_roots(subtree, region, next)?;
+    Ok(WalkEnd::Partial)
+}

@@ -1,0 +1,131 @@
+// The words of tiles.
+ghost use Rattle.std.specs.Prelude.{◌≡◌, ◌+◌, ◌*◌, ◌^◌, ◌<◌, ◌≤◌, ◌↔◌, IfSome, IsSome};
+ghost use Rattle.std.specs.Bool.{Decides};
+ghost use Rattle.implicit_tiling.specs.Limits.{most_levels};
+ghost use Rattle.implicit_tiling.specs.Tile.{IsTile};
+ghost use Rattle.implicit_tiling.specs.Code.{level_place, mask_place, word as word_for, word_tile as word_tile_of, word_mask, word_level, word_index, IsWord};
+ghost use Rattle.tile_word.specs.Words.{word_key, IsFurther};
+
+use crate::index::{index_of, nodes_at, tile_at};
+use tile_coords::{Scheme, Tile, Word};
+
+// The place of a word's mask, of 8 bits, and of its level; the index stands below them.
+const MASK_PLACE: u32 = 51;
+
+const LEVEL_PLACE: u32 = 59;
+
+const MASK_BITS: u64 = 0xFF;
+
+/// A tile, and a mask of its contents: bit c for content c.
+#[derive(Clone, Copy, Debug, PartialEq, Eq)]
+pub struct WordTile {
+    pub tile: Tile,
+    pub mask: u8,
+}
+
+/// The word of a tile and a mask of its contents. Words of one mask are ordered as the keys of their tiles.
+#[inline]
+pub fn word_of(scheme: Scheme, tile: &Tile, mask: u8) -> Word
+    requires within { tile.now.level < most_levels scheme }
+    requires tile { IsTile scheme tile.now }
+    ensures { result ≡ word_for scheme tile.now mask }
+{
+    word_at(tile.level, index_of(scheme, tile), mask)
+}
+
+/// The word of the tile of a level and a Morton index within it, and a mask of its contents.
+#[inline]
+pub fn word_at(level: u32, index: u64, mask: u8) -> Word
+    requires level { level < 2 ^ 5 }
+    requires index { index < 2 ^ mask_place }
+    ensures { result ≡ level * 2 ^ level_place + mask * 2 ^ mask_place + index }
+{
+    u64::from(level) << LEVEL_PLACE | u64::from(mask) << MASK_PLACE | index
+}
+
+/// The word `count` places further than another one: of the same level and mask, as long as there is such an index. Behind
+/// the last index it is above all words of the level and the mask.
+#[inline]
+pub fn word_after(word: Word, count: u64) -> Word
+    requires index { word_index word + count ≤ 2 ^ mask_place }
+    requires fits { word + count < 2 ^ 64 }
+    ensures number { result ≡ word + count }
+    ensures further { word_index word + count < 2 ^ mask_place → IsFurther word count result }
+{
+    word + count
+}
+
+/// The tile and the mask of a word. None exactly where the number is no word: its level is past the limit, or its
+/// index is past its level.
+#[inline]
+pub fn tile_of(scheme: Scheme, word: Word) -> Option<WordTile>
+    ensures accepted { IsSome result ↔ IsWord scheme word }
+    ensures tile { IfSome result (λ t. t.tile ≡ word_tile_of scheme word) }
+    ensures mask { IfSome result (λ t. t.mask ≡ word_mask word) }
+    ensures is_tile { IfSome result (λ t. IsTile scheme t.tile) }
+    ensures within { IfSome result (λ t. t.tile.level < most_levels scheme) }
+{
+    let level = (word >> LEVEL_PLACE) as u32;
+    let mask = (word >> MASK_PLACE & MASK_BITS) as u8;
+    let index = word & ((1 << MASK_PLACE) - 1);
+    if level >= scheme.most_levels() || index >= nodes_at(scheme, level) {
+        return None;
+    }
+    Some(WordTile {
+        tile: tile_at(scheme, level, index),
+        mask,
+    })
+}
+
+/// Whether a number is a word: its level is within the limit, and its index is one of its level's.
+#[inline]
+pub fn is_word(scheme: Scheme, word: Word) -> bool
+    ensures { Decides result (IsWord scheme word) }
+{
+    let level = level_of(word);
+    level < scheme.most_levels() && index_in(word) < nodes_at(scheme, level)
+}
+
+/// The word of the same tile without contents. These are ordered as the keys of the tiles.
+#[inline]
+pub fn key_of(word: Word) -> Word
+    ensures parts { result ≡ word_key word }
+    ensures key { (scheme : Scheme) → IsWord scheme word → result ≡ word_for scheme (word_tile_of scheme word) 0 }
+{
+    word & !(MASK_BITS << MASK_PLACE)
+}
+
+/// The mask of a word: bit c for content c.
+#[inline]
+pub fn mask_of(word: Word) -> u8
+    ensures { result ≡ word_mask word }
+{
+    (word >> MASK_PLACE & MASK_BITS) as u8
+}
+
+/// The level of a word's tile: 0 to 31 for any number.
+#[inline]
+pub fn level_of(word: Word) -> u32
+    ensures { result ≡ word_level word }
+{
+    (word >> LEVEL_PLACE) as u32
+}
+
+/// The Morton index of a word's tile: below 2^51 for any number.
+#[inline]
+pub fn index_in(word: Word) -> u64
+    ensures { result ≡ word_index word }
+{
+    word & ((1 << MASK_PLACE) - 1)
+}
+
+/// The tile of a word, where it is known to be one.
+#[inline]
+pub fn word_tile(scheme: Scheme, word: Word) -> Tile
+    requires { IsWord scheme word }
+    ensures tile { result ≡ word_tile_of scheme word }
+    ensures is_tile { IsTile scheme result }
+    ensures within { result.level < most_levels scheme }
+{
+    tile_at(scheme, level_of(word), index_in(word))
+}
