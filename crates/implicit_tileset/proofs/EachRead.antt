@@ -4,12 +4,16 @@ use Rattle.std.specs.Prelude.{Option, Some, None, option_and_then, option_map}
 use Rattle.std.proofs.Math.Seq.{drop-cons}
 use Rattle.std.proofs.Math.ListN.{drop_of_length-le}
 use Rattle.serde_json.specs.Data.{Data}
-use Rattle.serde_json.specs.View.{view, items_view}
+use Rattle.serde_json.specs.View.{view, items_view, items_of}
 use Rattle.serde_json.specs.declared.value.Value.{Value}
 use Rattle.implicit_tileset.specs.Json.{list_of, each_read}
 
 abbrev pub read_all : {A : Type 0} → (Data → Option A) → List Value → Option (List A)
 read_all of vs = each_read of (list_of (items_view vs))
+
+pub list_of-items_of : (values : List Data) → list_of (items_of values) ≡ values
+list_of-items_of [] = refl
+list_of-items_of (value ∷ values) = ap (λ l. value ∷ l) (list_of-items_of values)
 
 -- what was read, followed by what is read of the rest
 abbrev pub followed : {A : Type 0} → List A → Option (List A) → Option (List A)

@@ -1,5 +1,4 @@
 pub mod Contents
-pub mod Items
 pub mod Viewed
 pub mod Steps
 pub mod Whole

@@ -1,9 +1,10 @@
 -- What holds of a subtree that has none of the faults: it is one of the layout, and its bits break no rule.
-use Rattle.std.proofs.Common.{◌≡◌, ℕ, ◌%◌, Bool, true, false, List, refl, subst, arith}
+use Rattle.std.proofs.Common.{◌≡◌, ◌%◌, List, refl, subst, arith}
 use Rattle.std.specs.Prelude.{Option, Some, None, Result, Ok, Err, IfOk}
 use Rattle.std.specs.List.{list_any}
 use Rattle.std.proofs.lemmas.List.{length-map}
-use Rattle.implicit_tiling.specs.Checks.{need, refuse}
+use Rattle.implicit_tiling.proofs.Tables.{refuse-good}
+use Rattle.implicit_tiling.specs.Checks.{need}
 use Rattle.implicit_tiling.specs.Tile.{Tile}
 use Rattle.implicit_tiling.specs.Scene.{Layout}
 use Rattle.implicit_tiling.specs.Subtree.{Subtree, IsOf, has_orphan, has_content_alone}
@@ -17,11 +18,6 @@ use Rattle.subtree_file.proofs.Whole.{few_wanted}
 pub record IsSound (layout : Layout) (s : Subtree) : Type 0 where
   pub of_layout : IsOf layout s
   pub rules : KeepsRules s
-
--- a row that was passed
-row : {B : Type 0} (number : ℕ) (test : Bool) (rest : Result B ℕ) (b : B) → refuse number test rest ≡ Ok b → (test ≡ false) × (rest ≡ Ok b)
-row number true rest b is = cc
-row number false rest b is = (refl, is)
 
 is_of : (layout : Layout) (root : Tile) (h : Held) (contents : List Availability) → root.level % layout.subtree_levels ≡ 0 → wanted_contents layout h.parts ≡ Some contents
     → IsOf layout (subtree_from layout root h contents)
@@ -38,13 +34,13 @@ sound_held : (layout : Layout) (root : Tile) (h : Held) (contents : List Availab
 sound_held layout root h contents s start wanted is =
     let used = used_of layout h.parts contents in
     let made = subtree_from layout root h contents in
-    let r12 = row 12 (list_any (λ u. names_no_view h u.availability) used) _ s is in
-    let r13 = row 13 (list_any (λ u. is_external h u.availability) used) _ s r12.1 in
-    let r14 = row 14 (list_any (λ u. is_out h u.availability) used) _ s r13.1 in
-    let r15 = row 15 (list_any (is_short h) used) _ s r14.1 in
-    let r16 = row 16 (list_any (is_miscounted h) used) _ s r15.1 in
-    let r17 = row 17 (has_orphan made) _ s r16.1 in
-    let r18 = row 18 (has_content_alone made) (Ok made) s r17.1 in
+    let r12 = refuse-good 12 (list_any (λ u. names_no_view h u.availability) used) _ s is in
+    let r13 = refuse-good 13 (list_any (λ u. is_external h u.availability) used) _ s r12.1 in
+    let r14 = refuse-good 14 (list_any (λ u. is_out h u.availability) used) _ s r13.1 in
+    let r15 = refuse-good 15 (list_any (is_short h) used) _ s r14.1 in
+    let r16 = refuse-good 16 (list_any (is_miscounted h) used) _ s r15.1 in
+    let r17 = refuse-good 17 (has_orphan made) _ s r16.1 in
+    let r18 = refuse-good 18 (has_content_alone made) (Ok made) s r17.1 in
     let same : made ≡ s = cc in
     subst (IsSound layout) same (record {
       of_layout = is_of layout root h contents start wanted;

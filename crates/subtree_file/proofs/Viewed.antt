@@ -1,17 +1,18 @@
 -- The bits of a view, and of all that are used.
-use Rattle.std.proofs.Common.{◌≡◌, ℕ, zero, suc, ◌+◌, ◌*◌, ◌-◌, ◌<◌, ◌≤◌, true, List, [], ◌∷◌, ◌++◌, length, get_or, drop, map, replicate, refl, sym, ap, ◌∙◌, add-one, arith}
-use Rattle.std.specs.Prelude.{Err, ◌==◌}
+use Rattle.std.proofs.Common.{◌≡◌, ℕ, zero, suc, ◌+◌, ◌*◌, ◌-◌, ◌<◌, ◌≤◌, Bool, true, false, List, [], ◌∷◌, ◌++◌, length, get_or, drop, map, replicate, refl, sym, ap, ◌∙◌, add-one, arith}
+use Rattle.std.specs.Prelude.{Ok, Err, ◌==◌}
 use Rattle.std.specs.List.{list_any, range_with_len, slice_range}
+use Rattle.std.proofs.lemmas.List.Folds.{list_any_at}
 use Rattle.std.proofs.lemmas.List.FromFn.{map-range_with_len_more}
 use Rattle.bitstream.specs.Bits.{bits_of_bytes}
 use Rattle.implicit_tiling.specs.Bits.{bit_of_bytes}
 use Rattle.bitstream.proofs.Digits.{digit-take}
+use Rattle.implicit_tiling.specs.Checks.{refuse}
 use Rattle.implicit_tileset.specs.Record.{BufferView}
 use Rattle.implicit_tileset.specs.SubtreeFile.{Used, Held, is_miscounted, raw_bits}
 use Rattle.subtree_file.specs.declared.fault.DecodeFault.{DecodeFault}
 use Rattle.subtree_file.specs.declared.fault.DecodeFault.TheVariants.{Fault, Memory}
 use Rattle.subtree_file.specs.Decoding.{Decodes, DecodesList, bits_counted, all_counted, bits_of_view}
-use Rattle.subtree_file.proofs.Items.{any_at, refused}
 
 same_range : {X : Type 0} (f g : ℕ → X) (n : ℕ) → ((i : ℕ) → i < n → f i ≡ g i) → map f (range_with_len 0 n) ≡ map g (range_with_len 0 n)
 same_range f g zero same = refl
@@ -36,11 +37,16 @@ bits_of_view-copied binary v offset size needed at enough within =
     ∙ same_range (bit_of_bytes (slice_range binary v.offset (v.offset + size))) (bit_of_bytes (slice_range binary v.offset (v.offset + v.length))) needed
     (λ i h. ap (λ d. d == 1) (digit-take (v.offset + size - v.offset) bytes i (omega arith) ∙ sym (digit-take (v.offset + v.length - v.offset) bytes i (omega arith))))
 
+-- a last row that was refused
+pub refused : {B : Type 0} (number : ℕ) (test : Bool) (b : B) (n : ℕ) → refuse number test (Ok b) ≡ Err n → (test ≡ true) × (number ≡ n)
+refused number true b n is = (refl, cc)
+refused number false b n is = cc
+
 -- one that can't be read
 pub all_counted-err : (h : Held) (used : List Used) (i : ℕ) (u : Used) (fault : DecodeFault) → i < length used → u ≡ get_or used i u
     → Decodes (bits_counted h u) (Err fault) → DecodesList (all_counted h used) (Err fault)
 all_counted-err h used i u Memory within is one = tt
 all_counted-err h used i u (Fault n) within is one =
     let row = refused 16 (is_miscounted h u) (raw_bits h u) n one in
-    let any : list_any (is_miscounted h) used ≡ true = any_at (is_miscounted h) used i u within (ap (is_miscounted h) (sym is) ∙ row.0) in
+    let any : list_any (is_miscounted h) used ≡ true = list_any_at (is_miscounted h) used i u within (ap (is_miscounted h) (sym is) ∙ row.0) in
     rw any (ap Err row.1)

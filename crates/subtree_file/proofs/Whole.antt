@@ -6,7 +6,9 @@ use Rattle.std.proofs.Math.Seq.{take-append_seam, get_or-append_seam}
 use Rattle.std.proofs.lemmas.List.{length-take, length-map}
 use Rattle.std.proofs.lemmas.List.FromFn.{length-map-range_with_len}
 use Rattle.std.proofs.lemmas.List.Elements.{All-cons, All-nil}
+use Rattle.std.proofs.lemmas.Bool.{or_from}
 use Rattle.std.proofs.lemmas.List.Folds.{list_any-append}
+use Rattle.implicit_tiling.proofs.Tables.{refuse-good}
 use Rattle.implicit_tiling.specs.declared.Scheme.{Scheme}
 use Rattle.implicit_tiling.specs.declared.Scheme.TheVariants.{Quad, Oct}
 use Rattle.implicit_tiling.specs.Limits.{most_levels, most_subtree_levels}
@@ -21,8 +23,7 @@ use Rattle.tileset_json.specs.Limits.{IsWithinLimits}
 use Rattle.subtree_file.specs.declared.fault.DecodeFault.{DecodeFault}
 use Rattle.subtree_file.specs.declared.fault.DecodeFault.TheVariants.{Fault, Memory}
 use Rattle.subtree_file.specs.Decoding.{Decodes, AreUsed, bits_counted, all_counted, subtree_counted}
-use Rattle.subtree_file.proofs.Items.{refused, passed}
-use Rattle.subtree_file.proofs.Viewed.{all_counted-err}
+use Rattle.subtree_file.proofs.Viewed.{refused, all_counted-err}
 
 -- ---- no more contents than templates
 
@@ -95,9 +96,6 @@ middle_used x z ys used last are at =
 
 -- ---- the count of each
 
-three : (a b c : Bool) → a ≡ false → b ≡ false → c ≡ false → (a || (b || (c || false))) ≡ false
-three a b c ha hb hc = ap (λ x. x || (b || (c || false))) ha ∙ ap (λ x. x || (c || false)) hb ∙ ap (λ x. x || false) hc
-
 map_map : {X Y Z : Type 0} (f : Y → Z) (g : X → Y) (xs : List X) → map f (map g xs) ≡ map (λ x. f (g x)) xs
 map_map f g [] = refl
 map_map f g (x ∷ xs) = ap (λ ys. f (g x) ∷ ys) (map_map f g xs)
@@ -118,13 +116,16 @@ same_subtree layout root h contents tiles bits child are =
     let x = for_nodes layout h.parts.tiles in
     let ys = map (for_nodes layout) contents in
     let z = for_children layout h.parts.child in
-    let of_tiles = passed 16 (is_miscounted h x) (raw_bits h x) tiles are.of_tiles in
-    let of_contents = passed 16 (list_any (is_miscounted h) ys) (map (raw_bits h) ys) bits are.of_contents in
-    let of_child = passed 16 (is_miscounted h z) (raw_bits h z) child are.of_child in
+    let of_tiles = refuse-good 16 (is_miscounted h x) (Ok (raw_bits h x)) tiles are.of_tiles in
+    let of_contents = refuse-good 16 (list_any (is_miscounted h) ys) (Ok (map (raw_bits h) ys)) bits are.of_contents in
+    let of_child = refuse-good 16 (is_miscounted h z) (Ok (raw_bits h z)) child are.of_child in
+    let same_tiles : raw_bits h x ≡ tiles = cc in
+    let same_contents : map (raw_bits h) ys ≡ bits = cc in
+    let same_child : raw_bits h z ≡ child = cc in
     ap (λ bs. made_of layout root (raw_bits h x) bs (raw_bits h z)) (sym (map_map (raw_bits h) (for_nodes layout) contents))
-    ∙ ap (λ bs. made_of layout root bs (map (raw_bits h) ys) (raw_bits h z)) of_tiles.1
-    ∙ ap (λ bs. made_of layout root tiles bs (raw_bits h z)) of_contents.1
-    ∙ ap (made_of layout root tiles bits) of_child.1
+    ∙ ap (λ bs. made_of layout root bs (map (raw_bits h) ys) (raw_bits h z)) same_tiles
+    ∙ ap (λ bs. made_of layout root tiles bs (raw_bits h z)) same_contents
+    ∙ ap (made_of layout root tiles bits) same_child
 
 none_miscounted : (layout : Layout) (h : Held) (contents : List Availability) (tiles : List Bool) (bits : List (List Bool)) (child : List Bool)
     → AreRead layout h contents tiles bits child → list_any (is_miscounted h) (used_of layout h.parts contents) ≡ false
@@ -132,11 +133,11 @@ none_miscounted layout h contents tiles bits child are =
     let x = for_nodes layout h.parts.tiles in
     let ys = map (for_nodes layout) contents in
     let z = for_children layout h.parts.child in
-    let of_tiles = passed 16 (is_miscounted h x) (raw_bits h x) tiles are.of_tiles in
-    let of_contents = passed 16 (list_any (is_miscounted h) ys) (map (raw_bits h) ys) bits are.of_contents in
-    let of_child = passed 16 (is_miscounted h z) (raw_bits h z) child are.of_child in
+    let of_tiles = refuse-good 16 (is_miscounted h x) (Ok (raw_bits h x)) tiles are.of_tiles in
+    let of_contents = refuse-good 16 (list_any (is_miscounted h) ys) (Ok (map (raw_bits h) ys)) bits are.of_contents in
+    let of_child = refuse-good 16 (is_miscounted h z) (Ok (raw_bits h z)) child are.of_child in
     ap (λ b. is_miscounted h x || b) (list_any-append (is_miscounted h) ys (z ∷ []))
-    ∙ three (is_miscounted h x) (list_any (is_miscounted h) ys) (is_miscounted h z) of_tiles.0 of_contents.0 of_child.0
+    ∙ or_from _ _ of_tiles.0 (or_from _ _ of_contents.0 (or_from _ _ of_child.0 refl))
 
 -- the layout as it is seen, and its parts
 pub counted-ok : (layout inside : Layout) (root : Tile) (h : Held) (contents : List Availability) (tiles : List Bool) (bits : List (List Bool)) (child : List Bool)

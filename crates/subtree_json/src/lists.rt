@@ -1,69 +1,63 @@
 // The lists of a record.
-ghost use Rattle.std.specs.Prelude.{codes};
-ghost use Rattle.serde_json.specs.Find.{get};
+ghost use Rattle.std.specs.Prelude.{◌≡◌, Option, option_map, IfOk, map};
+ghost use Rattle.serde_json.specs.Data.{Data};
 ghost use Rattle.serde_json.specs.View.{view};
-ghost use Rattle.implicit_tileset.specs.Record.{buffer_of as stated_buffer, view_of as stated_view, content_of as stated_content};
-ghost use Rattle.subtree_json.specs.Reading.{listed, ReadsList, ReadsContents};
+ghost use Rattle.implicit_tileset.specs.Record.{list_read, content_of as stated_content};
+ghost use Rattle.subtree_json.specs.Seen.{content_seen};
 
-use crate::fault::JsonFault;
-use crate::members::{buffer_of, content_of, view_of};
-use crate::part::{BufferPart, ContentPart, ViewPart};
+use crate::members::content_of;
+use crate::part::ContentPart;
 use serde_json::Value;
-use std::alloc::Global;
+use std::alloc::{AllocError, Global};
 
-// The buffers of `buffers`, which may be absent.
-pub(crate) fn read_buffers(alloc: Global, value: &Value) -> Result<Vec<BufferPart>, JsonFault>
-    ensures { ReadsList (listed 9 stated_buffer (get (codes "buffers") (view value.now))) result }
-{
-    let Some(list) = value.get("buffers") else {
-        return Ok(Vec::new(alloc));
-    };
-    let Some(list) = list.as_array() else {
-        return Err(JsonFault::BadBuffers);
-    };
-    let mut buffers = Vec::with_capacity(alloc, list.len())?;
-    for member in list {
-        let Some(buffer) = buffer_of(member) else {
-            return Err(JsonFault::BadBuffers);
-        };
-        buffers.push(buffer)?;
-    }
-    Ok(buffers)
+// What stands in a list that is faulty where one of its members is.
+pub(crate) trait ListedPart: Drop {
+    // What a member of the list states, if it states something.
+    ghost stated: { Data → Option Self };
+
+    fn of_member(member: &Value) -> Option<Self>
+        ensures { result ≡ stated (view member.now) };
 }
 
-// The buffer views of `bufferViews`, which may be absent.
-pub(crate) fn read_views(alloc: Global, value: &Value) -> Result<Vec<ViewPart>, JsonFault>
-    ensures { ReadsList (listed 10 stated_view (get (codes "bufferViews") (view value.now))) result }
+// The parts of a list, which may be absent; None where it is another value, or a member is faulty.
+pub(crate) fn read_list<T: ListedPart>(
+    alloc: Global,
+    list: Option<&Value>,
+) -> Result<Option<Vec<T>>, AllocError>
+    ensures { IfOk result (λ parts. option_map (λ v. v.items) parts ≡ list_read T.stated (option_map (λ v. view v.now) list.entry)) }
 {
-    let Some(list) = value.get("bufferViews") else {
-        return Ok(Vec::new(alloc));
+    let Some(list) = list else {
+        return Ok(Some(Vec::new(alloc)));
     };
     let Some(list) = list.as_array() else {
-        return Err(JsonFault::BadViews);
+        return Ok(None);
     };
-    let mut views = Vec::with_capacity(alloc, list.len())?;
+    let mut parts = Vec::with_capacity(alloc, list.len())?;
     for member in list {
-        let Some(view) = view_of(member) else {
-            return Err(JsonFault::BadViews);
+        let Some(part) = T::of_member(member) else {
+            return Ok(None);
         };
-        views.push(view)?;
+        parts.push(part)?;
     }
-    Ok(views)
+    Ok(Some(parts))
 }
 
-// The content parts of `contentAvailability`, which may be absent.
-pub(crate) fn read_contents(alloc: Global, value: &Value) -> Result<Vec<ContentPart>, JsonFault>
-    ensures { ReadsContents (listed 11 stated_content (get (codes "contentAvailability") (view value.now))) result }
+// The content parts of a list, which may be absent; None where it is another value. A malformed one is no fault of it.
+pub(crate) fn read_contents(
+    alloc: Global,
+    list: Option<&Value>,
+) -> Result<Option<Vec<ContentPart>>, AllocError>
+    ensures { IfOk result (λ parts. option_map (λ v. map content_seen v.items) parts ≡ list_read stated_content (option_map (λ v. view v.now) list.entry)) }
 {
-    let Some(list) = value.get("contentAvailability") else {
-        return Ok(Vec::new(alloc));
+    let Some(list) = list else {
+        return Ok(Some(Vec::new(alloc)));
     };
     let Some(list) = list.as_array() else {
-        return Err(JsonFault::BadAvailability);
+        return Ok(None);
     };
-    let mut contents = Vec::with_capacity(alloc, list.len())?;
+    let mut parts = Vec::with_capacity(alloc, list.len())?;
     for member in list {
-        contents.push(content_of(member))?;
+        parts.push(content_of(member))?;
     }
-    Ok(contents)
+    Ok(Some(parts))
 }

@@ -4,39 +4,44 @@ ghost use Rattle.serde_json.specs.View.{view};
 ghost use Rattle.implicit_tileset.specs.Record.{buffer_of as stated_buffer, view_of as stated_view, availability_of as stated_availability, availability_at as stated_at, content_of as stated_content, constant_named, number_in, stream_from};
 ghost use Rattle.subtree_json.specs.Seen.{availability_seen, content_seen};
 
+use crate::lists::ListedPart;
 use crate::part::{Availability, BufferPart, ContentPart, ViewPart};
 use implicit_tileset::number_at;
 use serde_json::Value;
 
-// The buffer that a member of `buffers` is.
-pub(crate) fn buffer_of(value: &Value) -> Option<BufferPart>
-    ensures { result ≡ stated_buffer (view value.now) }
-{
-    let length = number_at(value, "byteLength")?;
-    let external = match value.get("uri") {
-        Some(uri) => {
-            if !uri.is_string() {
-                return None;
+// A member of `buffers`.
+impl ListedPart for BufferPart {
+    ghost stated = { stated_buffer };
+
+    fn of_member(member: &Value) -> Option<BufferPart> {
+        let length = number_at(member, "byteLength")?;
+        let external = match member.get("uri") {
+            Some(uri) => {
+                if !uri.is_string() {
+                    return None;
+                }
+                true
             }
-            true
-        }
-        None => false,
-    };
-    Some(BufferPart { length, external })
+            None => false,
+        };
+        Some(BufferPart { length, external })
+    }
 }
 
-// The buffer view that a member of `bufferViews` is.
-pub(crate) fn view_of(value: &Value) -> Option<ViewPart>
-    ensures { result ≡ stated_view (view value.now) }
-{
-    let buffer = number_at(value, "buffer")?;
-    let offset = number_at(value, "byteOffset")?;
-    let length = number_at(value, "byteLength")?;
-    Some(ViewPart {
-        buffer,
-        offset,
-        length,
-    })
+// A member of `bufferViews`.
+impl ListedPart for ViewPart {
+    ghost stated = { stated_view };
+
+    fn of_member(member: &Value) -> Option<ViewPart> {
+        let buffer = number_at(member, "buffer")?;
+        let offset = number_at(member, "byteOffset")?;
+        let length = number_at(member, "byteLength")?;
+        Some(ViewPart {
+            buffer,
+            offset,
+            length,
+        })
+    }
 }
 
 // The content part that a member of `contentAvailability` is.

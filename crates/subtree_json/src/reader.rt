@@ -4,8 +4,9 @@ ghost use Rattle.implicit_tileset.specs.Record.{record_of, record_of_value};
 ghost use Rattle.subtree_json.specs.Reading.{ReadsPart};
 
 use crate::fault::JsonFault;
-use crate::lists::{read_buffers, read_contents, read_views};
+use crate::lists::{read_contents, read_list};
 use crate::members::availability_at;
+use crate::part::{BufferPart, ViewPart};
 use crate::record::SubtreeRecord;
 use implicit_tileset::{JsonFault as ValueFault, read_value};
 use serde_json::Value;
@@ -33,12 +34,18 @@ fn read_record(alloc: Global, value: &Value) -> Result<SubtreeRecord, JsonFault>
     if !value.is_object() {
         return Err(JsonFault::NotObject);
     }
-    let buffers = read_buffers(alloc, value)?;
-    let views = read_views(alloc, value)?;
+    let Some(buffers) = read_list::<BufferPart>(alloc, value.get("buffers"))? else {
+        return Err(JsonFault::BadBuffers);
+    };
+    let Some(views) = read_list::<ViewPart>(alloc, value.get("bufferViews"))? else {
+        return Err(JsonFault::BadViews);
+    };
     let Some(tiles) = availability_at(value, "tileAvailability") else {
         return Err(JsonFault::BadAvailability);
     };
-    let contents = read_contents(alloc, value)?;
+    let Some(contents) = read_contents(alloc, value.get("contentAvailability"))? else {
+        return Err(JsonFault::BadAvailability);
+    };
     let Some(child) = availability_at(value, "childSubtreeAvailability") else {
         return Err(JsonFault::BadAvailability);
     };

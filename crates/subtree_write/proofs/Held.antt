@@ -2,7 +2,7 @@
 use Rattle.std.proofs.Common.{◌≡◌, ◌∙◌, ℕ, ◌+◌, ◌-◌, ◌*◌, ◌≤◌, ◌&&◌, ◌||◌, ◌==◌, Bool, true, false, not, nat_lt, cond, List, [], ◌∷◌, ◌++◌, length, map, take, drop, replicate, Some, append_assoc, length-append, ◌<◌, refl, sym, ap, ap₂, subst, arith}
 use Rattle.std.specs.List.{range_with_len, slice_get, slice_range, list_any}
 use Rattle.std.proofs.Math.Seq.{take-append_seam, drop-append_seam}
-use Rattle.std.proofs.lemmas.Bool.{le-ltb, eq-eqb}
+use Rattle.std.proofs.lemmas.Bool.{le-ltb, eq-eqb, or_from}
 use Rattle.std.proofs.lemmas.List.{ext_get_or, get_or-replicate, length-replicate}
 use Rattle.std.proofs.lemmas.List.FromFn.{length-map-range_with_len, get_or-map-range_with_len}
 use Rattle.implicit_tileset.specs.Record.{Buffer, BufferView, Availability, constant, stream, ContentPart}
@@ -71,9 +71,6 @@ record Views (h : Held) (number : ℕ) (view : BufferView) (buffer : Buffer) (bi
   many : length bits ≤ 8 * view.length
   bytes : slice_range h.binary view.offset (view.offset + view.length) ≡ bytes_of_bits bits
 
-either_false : (a b : Bool) → a ≡ false → b ≡ false → (a || b) ≡ false
-either_false a b e f = ap₂ (λ x y. x || y) e f
-
 stream_names : (h : Held) (number : ℕ) (view : BufferView) (buffer : Buffer) (bits : List Bool) → Views h number view buffer bits → Names h (stream number (Some (ones bits))) bits
 stream_names h number view buffer bits v =
     let n = length bits in
@@ -85,7 +82,7 @@ stream_names h number view buffer bits v =
       internal = ap (view_is (λ w. buffer_is (λ b. b.external) (buffer_named h w))) v.view_is_there ∙ ap (buffer_is (λ b. b.external)) v.buffer_is_there ∙ v.own;
       inside = ap (view_is (λ w. buffer_is (λ b. nat_lt b.length (w.offset + w.length) || nat_lt (length h.binary) b.length) (buffer_named h w))) v.view_is_there
           ∙ ap (buffer_is (λ b. nat_lt b.length (view.offset + view.length) || nat_lt (length h.binary) b.length)) v.buffer_is_there
-          ∙ either_false (nat_lt buffer.length (view.offset + view.length)) (nat_lt (length h.binary) buffer.length)
+          ∙ or_from (nat_lt buffer.length (view.offset + view.length)) (nat_lt (length h.binary) buffer.length)
           (le-ltb buffer.length (view.offset + view.length) v.fits) (le-ltb (length h.binary) buffer.length v.held);
       enough = ap (view_is (λ w. nat_lt (8 * w.length) n)) v.view_is_there ∙ le-ltb (8 * view.length) n v.many;
       counted = ap (λ l. not (ones bits == ones l)) raw ∙ ap not (eq-eqb (ones bits) (ones bits) refl);

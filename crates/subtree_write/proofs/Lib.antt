@@ -2,8 +2,6 @@ mod Rows
 pub mod Mixed
 pub mod Added
 pub mod Encoded
-pub mod Spaces
-pub mod Texts
 pub mod ReadValues
 pub mod Header
 pub mod ReadRecord

@@ -1,15 +1,17 @@
 -- A canonical file holds its subtree.
 use Rattle.std.proofs.Common.{◌≡◌, ◌∙◌, ℕ, suc, ◌+◌, ◌-◌, ◌*◌, ◌^◌, ◌<◌, ◌≤◌, ◌||◌, Bool, true, false, cond, List, [], ◌∷◌, ◌++◌, length, map, take, Some, option_map, length-append, refl, sym, ap, ap₂, subst, lit<, arith}
-use Rattle.std.specs.Prelude.{Result, Ok}
+use Rattle.std.specs.Prelude.{Ok}
 use Rattle.std.specs.List.{list_any, All}
 use Rattle.std.proofs.Math.Nat.{pow-le-pow_right}
 use Rattle.std.proofs.lemmas.Bool.{le-ltb}
 use Rattle.std.proofs.lemmas.List.{take_all}
+use Rattle.serde_json.specs.Data.{Items}
+use Rattle.serde_json.specs.View.{items_of}
 use Rattle.serde_json.specs.Written.{compact_text}
 use Rattle.implicit_tiling.proofs.Tables.{refuse-past}
 use Rattle.implicit_tiling.specs.declared.Scheme.{Scheme}
 use Rattle.implicit_tiling.specs.declared.Scheme.TheVariants.{Quad, Oct}
-use Rattle.implicit_tiling.specs.Checks.{refuse, need}
+use Rattle.implicit_tiling.specs.Checks.{need}
 use Rattle.implicit_tiling.specs.Limits.{most_subtree_levels, most_file_bytes}
 use Rattle.implicit_tiling.specs.Tile.{Tile}
 use Rattle.implicit_tiling.specs.Scene.{Layout, good, bad}
@@ -21,8 +23,9 @@ use Rattle.availability.specs.Rules.{KeepsRules}
 use Rattle.subtree_write.specs.Reading.{CanonicalFilesReadBack, CanonicalFilesAreGood}
 use Rattle.subtree_write.proofs.Added.{length-padded, length-stream}
 use Rattle.bitstream.specs.Bytes.{bytes_filled, bytes_of_bits}
-use Rattle.subtree_write.proofs.Texts.{ReadsAs, ItemsRead, json_of-text, reads_more}
-use Rattle.subtree_write.proofs.ReadValues.{AreShort, views_read, availabilities_read, availability_reads, file_reads}
+use Rattle.implicit_tileset.proofs.WrittenJson.{ReadsAs, json_of-spaced}
+use Rattle.implicit_tileset.proofs.WrittenLengths.{IsWithin, ItemsWithin}
+use Rattle.subtree_write.proofs.ReadValues.{IsSmall, AreSmall, AreShort, views_small, availabilities_small, availability_small, file_reads, file_within}
 use Rattle.subtree_write.proofs.Header.{parts_of-file, length-file}
 use Rattle.subtree_write.proofs.ReadRecord.{stated, all_stated, record_stated}
 use Rattle.subtree_write.proofs.Held.{used, Names, AllName, held_of, names_own, all_name}
@@ -71,15 +74,24 @@ bytes_few (bits ∷ rest) h =
 
 -- ---- the JSON part
 
-items_more : (long : ℕ) (ds : _) → ItemsRead 1 long ds → long ≤ 2000 → ItemsRead 1 2000 ds
-items_more long ds r h = record { whole = r.whole; numbers = r.numbers; shallow = r.shallow; utf8 = r.utf8; short = λ later. omega (arith, r.short later) }
-
 -- the availabilities of a subtree are at most ten
 ten : (s : Subtree) → IsSubtree s → length (availabilities_of s) ≤ 10
 ten s w = omega (arith, w.few_contents, length-append s.contents (s.child ∷ []))
 
-value_reads : (s : Subtree) → IsSubtree s → ReadsAs 3 5000 (json_value s)
-value_reads s w =
+front_short : (xs ys : List (List Bool)) → AreShort (xs ++ ys) → AreShort xs
+front_short [] ys h = tt
+front_short (x ∷ xs) ys h = (h.0, front_short xs ys h.1)
+
+-- the parts of the value
+record HasSmallParts (s : Subtree) : Type 0 where
+  views : AreSmall (length (streams s)) (items_of (view_values 0 (streams s)))
+  size : length (binary s) < 2 ^ 32
+  tiles : IsSmall (availability_value 0 s.tiles)
+  contents : AreSmall (length s.contents) (items_of (availability_values (length (streams_of (s.tiles ∷ []))) s.contents))
+  child : IsSmall (availability_value (length (streams_of (s.tiles ∷ s.contents))) s.child)
+
+small_parts : (s : Subtree) → IsSubtree s → HasSmallParts s
+small_parts s w =
     let xs = streams s in
     let short = all_short s w in
     let few = ten s w in
@@ -88,16 +100,32 @@ value_reads s w =
     let streamed = streams_short (availabilities_of s) short in
     let first = streams_few (s.tiles ∷ []) in
     let second = streams_few (s.tiles ∷ s.contents) in
-    file_reads (view_values 0 xs) (length (binary s)) (availability_value 0 s.tiles) (availability_values (length (streams_of (s.tiles ∷ []))) s.contents) (availability_value (length (streams_of (s.tiles ∷ s.contents))) s.child)
-    (items_more (1 + 121 * length xs) _ (views_read 0 xs streamed (omega arith)) (omega arith))
-    (omega (arith, bytes_few xs streamed))
-    (availability_reads 0 s.tiles (omega arith) short.0)
-    (items_more (1 + 121 * length s.contents) _ (availabilities_read (length (streams_of (s.tiles ∷ []))) s.contents (front_short s.contents (s.child ∷ []) short.1) (omega (arith, w.few_contents))) (omega (arith, w.few_contents)))
-    (availability_reads (length (streams_of (s.tiles ∷ s.contents))) s.child (omega (arith, w.few_contents)) (omega (arith, fit.1, w.child_bits)))
-  where
-    front_short : (xs ys : List (List Bool)) → AreShort (xs ++ ys) → AreShort xs
-    front_short [] ys h = tt
-    front_short (x ∷ xs) ys h = (h.0, front_short xs ys h.1)
+    record {
+      views = views_small 0 xs streamed (omega arith);
+      size = omega (arith, bytes_few xs streamed);
+      tiles = availability_small 0 s.tiles (omega arith) short.0;
+      contents = availabilities_small (length (streams_of (s.tiles ∷ []))) s.contents (front_short s.contents (s.child ∷ []) short.1) (omega (arith, w.few_contents));
+      child = availability_small (length (streams_of (s.tiles ∷ s.contents))) s.child (omega (arith, w.few_contents)) (omega (arith, fit.1, w.child_bits));
+    }
+
+value_reads : (s : Subtree) → IsSubtree s → ReadsAs 3 (json_value s)
+value_reads s w =
+    let p = small_parts s w in
+    file_reads (view_values 0 (streams s)) (length (binary s)) (availability_value 0 s.tiles) (availability_values (length (streams_of (s.tiles ∷ []))) s.contents)
+    (availability_value (length (streams_of (s.tiles ∷ s.contents))) s.child) p.views.read p.size p.tiles.reads p.contents.read p.child.reads
+
+at_most : (few most : ℕ) (ds : Items) → ItemsWithin few ds → few ≤ most → ItemsWithin most ds
+at_most few most ds h fits later = omega (arith, h later, fits)
+
+value_short : (s : Subtree) → IsSubtree s → IsWithin 5400 (json_value s)
+value_short s w =
+    let p = small_parts s w in
+    let few = ten s w in
+    let views = streams_few (availabilities_of s) in
+    file_within (view_values 0 (streams s)) (length (binary s)) (availability_value 0 s.tiles) (availability_values (length (streams_of (s.tiles ∷ []))) s.contents)
+    (availability_value (length (streams_of (s.tiles ∷ s.contents))) s.child)
+    (at_most (1 + 201 * length (streams s)) 2100 _ p.views.within (omega arith)) p.size p.tiles.within
+    (at_most (1 + 201 * length s.contents) 2100 _ p.contents.within (omega (arith, w.few_contents))) p.child.within
 
 -- ---- no row of the table holds
 
@@ -202,13 +230,12 @@ assembled layout root file json bytes r s parts rec held =
     ap (λ p. and_then p (λ q. and_then (record_of q.json) (subtree_recorded layout root q.binary))) parts
     ∙ ap (λ p. and_then p (subtree_recorded layout root bytes)) rec ∙ held
 
-part_short : (text : List ℕ) → length text ≤ 5000 → length (padded 32 text) < 2 ^ 64
+part_short : (text : List ℕ) → length text ≤ 5400 → length (padded 32 text) < 2 ^ 64
 part_short text h = omega (arith, length-padded 32 text)
 
 own_reads_back : (s : Subtree) (template : List ℕ) (templates : List (List ℕ)) → IsSubtree s → KeepsRules s → length s.contents ≤ length templates → subtree_of (own_layout s template templates) s.root (canonical s) ≡ Ok s
 own_reads_back s template templates w rules few =
     let xs = streams s in
-    let reads = value_reads s w in
     let text = compact_text (json_value s) in
     let b = length (streams_of (s.tiles ∷ [])) in
     let c = length (streams_of (s.tiles ∷ s.contents)) in
@@ -222,8 +249,8 @@ own_reads_back s template templates w rules few =
       child = names_own (stated 0 s.tiles) (map well_formed contents) (stated c s.child) (availabilities_of s) (s.tiles ∷ s.contents) s.child [] refl;
     } in
     assembled (own_layout s template templates) s.root (canonical s) (json_part s) (binary s) h.parts s
-    (parts_of-file (json_part s) (binary s) (part_short text reads.short) bytes_short)
-    (record_stated (json_part s) xs size 0 b c s.tiles s.contents s.child (json_of-text (json_value s) (aligned (length text) - length text) 5000 (reads_more 3 9 5000 5000 (json_value s) (omega arith) (omega arith) reads)))
+    (parts_of-file (json_part s) (binary s) (part_short text (value_short s w)) bytes_short)
+    (record_stated (json_part s) xs size 0 b c s.tiles s.contents s.child (json_of-spaced 3 (json_value s) (aligned (length text) - length text) (omega arith) (value_reads s w)))
     (recorded s template templates h contents w rules holds few (length-all_stated b s.contents) refl)
 
 layout_own : (layout : Layout) (s : Subtree) → IsOf layout s → own_layout s layout.subtree layout.contents ≡ layout
@@ -240,13 +267,13 @@ good_from : (layout : Layout) (root : Tile) (file : List ℕ) (s : Subtree) → 
 good_from layout root file s short e =
     ap (λ b. cond b (bad 2) (outcome_from (subtree_of layout root file))) (le-ltb most_file_bytes (length file) short) ∙ ap outcome_from e
 
-file_short : (json bytes : List ℕ) → length json ≤ 5007 → length bytes ≤ 2 ^ 18 * 10 → length (file_of json bytes) ≤ most_file_bytes
+file_short : (json bytes : List ℕ) → length json ≤ 5407 → length bytes ≤ 2 ^ 18 * 10 → length (file_of json bytes) ≤ most_file_bytes
 file_short json bytes h k = omega (arith, length-file json bytes)
 
-text_short : (text : List ℕ) → length text ≤ 5000 → length (padded 32 text) ≤ 5007
+text_short : (text : List ℕ) → length text ≤ 5400 → length (padded 32 text) ≤ 5407
 text_short text h = omega (arith, length-padded 32 text)
 
 pub canonical_files_are_good : CanonicalFilesAreGood
 canonical_files_are_good layout s w of rules =
     let few : length (binary s) ≤ 2 ^ 18 * 10 = omega (arith, bytes_few (streams s) (streams_short (availabilities_of s) (all_short s w)), streams_few (availabilities_of s), ten s w) in
-    good_from layout s.root (canonical s) s (file_short (json_part s) (binary s) (text_short (compact_text (json_value s)) (value_reads s w).short) few) (canonical_files_read_back layout s w of rules)
+    good_from layout s.root (canonical s) s (file_short (json_part s) (binary s) (text_short (compact_text (json_value s)) (value_short s w)) few) (canonical_files_read_back layout s w of rules)

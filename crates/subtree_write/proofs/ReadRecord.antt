@@ -5,8 +5,9 @@ use Rattle.serde_json.specs.Data.{Data, array}
 use Rattle.serde_json.specs.Find.{get}
 use Rattle.serde_json.specs.View.{items_of}
 use Rattle.implicit_tiling.specs.Checks.{need}
-use Rattle.implicit_tileset.specs.Json.{json_of, object_of, list_of, each_read}
+use Rattle.implicit_tileset.specs.Json.{json_of, object_of, each_read}
 use Rattle.implicit_tileset.specs.Record.{Buffer, BufferView, Availability, constant, stream, ContentPart, well_formed, SubtreeRecord, record_of, list_read, buffer_of, view_of, availability_of, availability_at, content_from, content_of}
+use Rattle.implicit_tileset.proofs.EachRead.{list_of-items_of}
 use Rattle.bitstream.specs.Bytes.{bytes_filled}
 use Rattle.subtree_write.specs.Canonical.{aligned, is_mixed, has_one, streams_of, view_values, buffer_values, constant_value, stream_value, availability_value, availability_values, file_value}
 use Rattle.subtree_write.proofs.Mixed.{ones}
@@ -32,10 +33,6 @@ all_stated view [] = []
 all_stated view (bits ∷ rest) = stated view bits ∷ all_stated (view + length (streams_of (bits ∷ []))) rest
 
 -- ---- reading it
-
-list_of-items_of : (values : List Data) → list_of (items_of values) ≡ values
-list_of-items_of [] = refl
-list_of-items_of (value ∷ values) = ap (λ l. value ∷ l) (list_of-items_of values)
 
 views_stated : (offset : ℕ) (bitstreams : List (List Bool)) → each_read view_of (view_values offset bitstreams) ≡ Some (view_records offset bitstreams)
 views_stated offset [] = refl

@@ -1,25 +1,23 @@
 -- The text of a layout states the layout.
-use Rattle.std.proofs.Common.{◌≡◌, ◌∙◌, ℕ, suc, ◌<◌, ◌≤◌, ◌^◌, ◌&&◌, Bool, false, cond, nat_lt, List, [], ◌∷◌, map, length, codes, Option, Some, None, option_map, option_and_then, refl, ap, ap₂, arith}
+use Rattle.std.proofs.Common.{◌≡◌, ◌∙◌, ℕ, suc, ◌≤◌, ◌&&◌, false, cond, nat_lt, List, [], ◌∷◌, map, length, codes, Option, Some, None, option_map, option_and_then, refl, ap, ap₂, arith}
 use Rattle.std.specs.Prelude.{Ok, Result}
 use Rattle.std.specs.List.{All}
 use Rattle.std.proofs.lemmas.Bool.{le-ltb, le-leb}
 use Rattle.serde_json.specs.Data.{Data}
 use Rattle.serde_json.specs.Find.{get}
-use Rattle.serde_json.specs.View.{items_of}
 use Rattle.implicit_tiling.proofs.Tables.{refuse-past}
 use Rattle.implicit_tiling.specs.declared.Scheme.{Scheme}
 use Rattle.implicit_tiling.specs.declared.Scheme.TheVariants.{Quad, Oct}
 use Rattle.implicit_tiling.specs.Limits.{most_levels, most_subtree_levels, most_contents}
 use Rattle.implicit_tiling.specs.Checks.{need, refuse}
 use Rattle.implicit_tiling.specs.Scene.{Layout}
-use Rattle.implicit_tileset.specs.Json.{json_of, object_at, number_at, text_at, has_member, list_of}
+use Rattle.implicit_tileset.specs.Json.{json_of, object_at, number_at, text_at, has_member}
 use Rattle.implicit_tileset.specs.Tileset.{scheme_named, from_one_to, template_of, templates_of, contents_of, layout_of_value}
 use Rattle.tileset_write.specs.LayoutText.{IsTemplateText, IsLayout, LayoutTextsReadBack, scheme_name, uri_value, implicit_value, root_value, layout_value, layout_text}
-use Rattle.tileset_write.proofs.LayoutReads.{json_of-text, implicit_reads, root_reads, tileset_reads, deep_reads}
-
-list_of-items_of : (values : List Data) → list_of (items_of values) ≡ values
-list_of-items_of [] = refl
-list_of-items_of (value ∷ values) = ap (λ l. value ∷ l) (list_of-items_of values)
+use Rattle.implicit_tileset.proofs.EachRead.{list_of-items_of}
+use Rattle.implicit_tileset.proofs.WrittenJson.{json_of-text}
+use Rattle.tileset_write.proofs.LayoutShort.{levels_small, subtree_levels_small}
+use Rattle.tileset_write.proofs.LayoutReads.{implicit_reads, root_reads, tileset_reads}
 
 template_stated : (t : List ℕ) → IsTemplateText t → template_of (uri_value t) ≡ Some t
 template_stated t h = ap (λ b. cond b (Some t) None) h.template
@@ -52,14 +50,6 @@ scheme_stated Oct = refl
 
 some_number : (most n : ℕ) → 1 ≤ n → n ≤ most → from_one_to most (Some n) ≡ Some n
 some_number most n h k = ap₂ (λ a b. cond (a && b) (Some n) None) (le-leb 1 n h) (le-leb n most k)
-
-levels_small : (scheme : Scheme) (n : ℕ) → n ≤ most_levels scheme → n < 2 ^ 64
-levels_small Quad n h = omega (arith, h)
-levels_small Oct n h = omega (arith, h)
-
-subtree_levels_small : (scheme : Scheme) (n : ℕ) → n ≤ most_subtree_levels scheme → n < 2 ^ 64
-subtree_levels_small Quad n h = omega (arith, h)
-subtree_levels_small Oct n h = omega (arith, h)
 
 abbrev laid : Scheme → ℕ → ℕ → List ℕ → List (List ℕ) → Layout
 laid scheme subtree_levels levels subtree contents = record { scheme = scheme; subtree_levels = subtree_levels; levels = levels; subtree = subtree; contents = contents }
@@ -106,7 +96,7 @@ layout_texts_read_back layout h =
     let scheme = layout.scheme in
     let implicit = implicit_value scheme layout.subtree_levels layout.levels layout.subtree in
     let reads = implicit_reads scheme layout.subtree_levels layout.levels layout.subtree
-    (subtree_levels_small scheme layout.subtree_levels h.limits.few_subtree_levels) (levels_small scheme layout.levels h.limits.few_levels) h.subtree.utf8 in
+    (omega (arith, subtree_levels_small scheme layout.subtree_levels h.limits.few_subtree_levels)) (omega (arith, levels_small scheme layout.levels h.limits.few_levels)) h.subtree.utf8 in
     let all = tileset_reads (root_value layout.contents implicit) (root_reads layout.contents implicit h.contents reads) in
-    given 3 (json_of (layout_text layout)) (layout_value layout) layout_of_value (json_of-text (layout_value layout) (deep_reads (layout_value layout) all))
+    given 3 (json_of (layout_text layout)) (layout_value layout) layout_of_value (json_of-text 4 (layout_value layout) (omega arith) all)
     ∙ value_stated layout h
