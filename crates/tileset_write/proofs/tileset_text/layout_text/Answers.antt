@@ -1,8 +1,8 @@
 use Rattle.std.proofs.Common.{◌∙◌, ap}
+use Rattle.std.proofs.lemmas.Result.{on_ok_weaker}
 use Rattle.serde_json.specs.Written.{has_float, compact_text}
 use Rattle.tileset_write.specs.LayoutText.{layout_text}
 use Rattle.tileset_write.proofs.LayoutMade.{no_float, text_added}
-use Rattle.tileset_write.proofs.LayoutKept.{on_ok}
 use Rattle.tileset_write.proofs.LayoutStated.{layout_texts_read_back}
 use Rattle.tileset_write.proofs.tileset_text.layout_text.Goals as goal
 
@@ -14,4 +14,4 @@ returns-clause-ok c =
     (c.deref.ensures.value ∙ c.in_ok-text.ensures.text (ap has_float value ∙ no_float layout) ∙ ap compact_text value)
 
 pub returns-clause-stated : goal.returns-clause-stated
-returns-clause-stated c = on_ok c.extend_from_slice.result _ (layout_texts_read_back c.args.layout.now c.in_ok-layout_value.ensures.layout)
+returns-clause-stated c = on_ok_weaker c.extend_from_slice.result (λ _. layout_texts_read_back c.args.layout.now c.in_ok-layout_value.ensures.layout) (returns-clause-ok c)
