@@ -1,6 +1,5 @@
 -- What was told of files, as what is wanted; and plans that fit.
 use Rattle.std.proofs.Common.{◌≡◌, ℕ, ◌<◌, ◌≤◌, Bool, true, false, List, [], ◌∷◌, length, refl, sym, ap, subst, ◌∙◌, arith, inl, inr, ◌⊎◌}
-use Rattle.commands.specs.Words.{Wish, tiles}
 use Rattle.std.specs.Prelude.{Option, Some, None, IfSome, Result, Ok, Err, IsTrue, ◌↔◌, if◌then◌else◌, nat_lt, nat_le, not, ◌^◌, ◌==◌, ◌&&◌, slice_index, map}
 use Rattle.std.specs.Io.KnownBytes.{Appends}
 use Rattle.std.proofs.KnownBytes.{Appends-nil, Keeps-refl}
@@ -32,9 +31,14 @@ use Rattle.tileset_json.specs.Limits.{IsWithinLimits}
 use Rattle.walk_laws.proofs.Regions.{accepted_is_a_region}
 use Rattle.request_text.proofs.Found.{found_make_the_text}
 use Rattle.request_text.proofs.Words.{words_make_the_text}
-use Rattle.commands.specs.declared.status.Status.{Status}
-use Rattle.commands.specs.declared.status.Status.TheVariants.{Done, Faulted, Usage, BadLayout, ReadFault, WriteFault, InputFault, Memory, InputLong}
-use Rattle.commands.specs.Replies.{Reply, end_status, walk_status, found_status, plan_reply, line_reply, check_reply, layout_in, reply_over, reply_in, reply_wanted, puts_files, Agrees, IsGiven, IsBegun, Replies}
+use Rattle.program_status.specs.declared.status.Status.{Status}
+use Rattle.program_status.specs.declared.status.Status.TheVariants.{Done, Faulted, Usage, BadLayout, ReadFault, WriteFault, InputFault, Memory, InputLong}
+use Rattle.commands.specs.Commands.{Wish, promised}
+use Rattle.commands.specs.Replies.{Reply, layout_wanted, reply_over, reply_in, Agrees, IsGiven, IsBegun, Replies}
+use Rattle.commands.specs.Tiles.{end_status, walk_status, plan_reply, line_reply}
+use Rattle.commands.specs.Check.{found_status, check_reply}
+use Rattle.program_status.specs.Sets.{IsOneOf}
+use Rattle.commands.specs.Replies.{early_ends}
 use Rattle.walk_laws.specs.Plans.{FitsLayout}
 use Rattle.tile_word.specs.Answers.{IsAnswer}
 use Rattle.implicit_tiling.specs.Code.{tile_word}
@@ -165,52 +169,54 @@ plan_fits layout (Some line) plan h =
       accepted = accepted_again layout.levels line.level (three line.lo) (three line.hi) plan.region made.0;
     }
 
+-- the reply to a line is that to its plan, or its refusal
+pub line_replies : (told : Option Files) (layout : Layout) (line : Line) (read : Result Plan ℕ) (before now : Option (List ℕ)) (status : Status)
+    → read ≡ plan_of_line layout.scheme layout.levels (Some line) → IfSome told (λ all. Replies (Ok (plan_reply (scene_of all layout) read)) before now status)
+    → IfSome told (λ all. Replies (Ok (line_reply (scene_of all layout) line)) before now status)
+line_replies told layout line read before now status is h =
+    let P : Result Plan ℕ → Type 0 = λ r. IfSome told (λ all. Replies (Ok (plan_reply (scene_of all layout) r)) before now status) in subst P is h
+
 -- ---- before anything is given
 
 pub nothing_begun : (wanted : Result Reply Status) (before : Option (List ℕ)) → IsBegun wanted before before
 nothing_begun (Ok reply) before = nothing_given before reply.text
 nothing_begun (Err status) before = Keeps-refl before
 
-bad_layout : (of : Scene → Reply) (all : Files) (wanted : Result Layout Status) (number : ℕ) (before : Option (List ℕ)) → wanted ≡ Err (BadLayout number)
-    → IsGiven (reply_over of all wanted) before before (BadLayout number)
-bad_layout of all wanted number before is =
-    let P : Result Layout Status → Type 0 = λ w. IsGiven (reply_over of all w) before before (BadLayout number) in subst P (sym is) (refl, Keeps-refl before)
+early_is : (of : Scene → Reply) (all : Files) (wanted : Result Layout Status) (status : Status) (before : Option (List ℕ)) → wanted ≡ Err status
+    → IsGiven (reply_over of all wanted) before before status
+early_is of all wanted status before is =
+    let P : Result Layout Status → Type 0 = λ w. IsGiven (reply_over of all w) before before status in subst P (sym is) (refl, Keeps-refl before)
 
--- a layout that isn't there or is faulty ends the program with nothing given
-early_replies : (of : Scene → Reply) (all : Files) (wanted : Result Layout Status) (status : Status) (before : Option (List ℕ)) → Agrees wanted (Err status)
+-- a layout that isn't there or is faulty ends the program with nothing given; a fetch ends with no write fault
+early_replies : (of : Scene → Reply) (all : Files) (wanted : Result Layout Status) (status : Status) (before : Option (List ℕ)) → IsOneOf early_ends status → Agrees wanted (Err status)
     → Replies (reply_over of all wanted) before before status
-early_replies of all wanted ReadFault before agrees = Keeps-refl before
-early_replies of all wanted Memory before agrees = nothing_begun (reply_over of all wanted) before
-early_replies of all wanted (BadLayout number) before agrees = bad_layout of all wanted number before agrees
-early_replies of all wanted WriteFault before agrees = absurd agrees
-early_replies of all wanted Done before agrees = absurd agrees
-early_replies of all wanted Faulted before agrees = absurd agrees
-early_replies of all wanted Usage before agrees = absurd agrees
-early_replies of all wanted InputFault before agrees = absurd agrees
-early_replies of all wanted InputLong before agrees = absurd agrees
+early_replies of all wanted ReadFault before early agrees = Keeps-refl before
+early_replies of all wanted Memory before early agrees = nothing_begun (reply_over of all wanted) before
+early_replies of all wanted WriteFault before early agrees = absurd early
+early_replies of all wanted (BadLayout number) before early agrees = early_is of all wanted (BadLayout number) before agrees
+early_replies of all wanted Done before early agrees = absurd early
+early_replies of all wanted Faulted before early agrees = absurd early
+early_replies of all wanted Usage before early agrees = absurd early
+early_replies of all wanted InputFault before early agrees = absurd early
+early_replies of all wanted InputLong before early agrees = absurd early
 
 -- what is wanted of files that are told
-pub told_wanted : (told : Option Files) (of : Scene → Reply) (P : Result Reply Status → Type 0) → IfSome told (λ all. P (reply_over of all (layout_in all))) → IfSome (reply_in of told) P
+pub told_wanted : (told : Option Files) (of : Scene → Reply) (P : Result Reply Status → Type 0) → IfSome told (λ all. P (reply_over of all (layout_wanted all))) → IfSome (reply_in of told) P
 told_wanted None of P h = tt
 told_wanted (Some all) of P h = h
 
-pub told_early : (told : Option Files) (of : Scene → Reply) (status : Status) (before : Option (List ℕ))
-    → IfSome told (λ all. Agrees (layout_in all) (Err status)) → IfSome (reply_in of told) (λ wanted. Replies wanted before before status)
-told_early told of status before agrees = told_wanted told of (λ wanted. Replies wanted before before status)
-    (of_told told (λ all. Agrees (layout_in all) (Err status)) (λ all. Replies (reply_over of all (layout_in all)) before before status)
-    (λ all h. early_replies of all (layout_in all) status before h) agrees)
+pub told_early : (told : Option Files) (of : Scene → Reply) (status : Status) (before : Option (List ℕ)) → IsOneOf early_ends status
+    → IfSome told (λ all. Agrees (layout_wanted all) (Err status)) → IfSome (reply_in of told) (λ wanted. Replies wanted before before status)
+told_early told of status before early agrees = told_wanted told of (λ wanted. Replies wanted before before status)
+    (of_told told (λ all. Agrees (layout_wanted all) (Err status)) (λ all. Replies (reply_over of all (layout_wanted all)) before before status)
+    (λ all h. early_replies of all (layout_wanted all) status before early h) agrees)
 
 -- the reply over the layout that was found is the one that is wanted
-pub told_found : (told : Option Files) (of : Scene → Reply) (layout : Layout) (P : Result Reply Status → Type 0) → IfSome told (λ all. Agrees (layout_in all) (Ok layout))
+pub told_found : (told : Option Files) (of : Scene → Reply) (layout : Layout) (P : Result Reply Status → Type 0) → IfSome told (λ all. Agrees (layout_wanted all) (Ok layout))
     → IfSome told (λ all. P (Ok (of (scene_of all layout)))) → IfSome (reply_in of told) P
 told_found None of layout P agrees h = tt
 told_found (Some all) of layout P agrees h =
     let Q : Result Layout Status → Type 0 = λ w. P (reply_over of all w) in subst Q (sym agrees) h
-
--- what is wanted by a line is the reply to it
-pub line_wanted : (told : Option Files) (wish : Wish) (line : List ℕ) (P : Result Reply Status → Type 0) → wish ≡ tiles line
-    → IfSome (reply_in (λ s. line_reply s line) told) P → IfSome (reply_wanted told (Some wish)) P
-line_wanted told wish line P is h = let Q : Wish → Type 0 = λ w. IfSome (reply_wanted told (Some w)) P in subst Q (sym is) h
 
 -- a fact of what is wanted, whatever it is
 pub of_wanted : (wanted : Option (Result Reply Status)) (P : Result Reply Status → Type 0) → ((w : Result Reply Status) → P w) → IfSome wanted P
@@ -223,12 +229,7 @@ given_or_not : (w : Result Reply Status) (S K O X : Type 0) (before now : Option
 given_or_not w S K O X before now Memory h read write = inl refl
 given_or_not w S K O X before now ReadFault h read write = inr (inl (read refl))
 given_or_not w S K O X before now WriteFault h read write = inr (inr (elim (write refl) [ inl out ↦ inr (inl out) | inr keep ↦ inl keep.1 ]))
-given_or_not w S K O X before now Done h read write = inr (inr (inr (inr h)))
-given_or_not w S K O X before now Faulted h read write = inr (inr (inr (inr h)))
-given_or_not w S K O X before now Usage h read write = inr (inr (inr (inr h)))
-given_or_not w S K O X before now (BadLayout number) h read write = inr (inr (inr (inr h)))
-given_or_not w S K O X before now InputFault h read write = inr (inr (inr (inr h)))
-given_or_not w S K O X before now InputLong h read write = inr (inr (inr (inr h)))
+given_or_not w S K O X before now status h read write = inr (inr (inr (inr h)))
 
 all_given_or_not : (wanted : Option (Result Reply Status)) (S K O X : Type 0) (before now : Option (List ℕ)) (status : Status) → IfSome wanted (λ w. Replies w before now status)
     → (status ≡ ReadFault → S) → (status ≡ WriteFault → O ⊎ (X × K)) → IfSome wanted (λ w. (status ≡ Memory) ⊎ (S ⊎ (K ⊎ (O ⊎ IsGiven w before now status))))
@@ -236,15 +237,15 @@ all_given_or_not None S K O X before now status h read write = tt
 all_given_or_not (Some w) S K O X before now status h read write = given_or_not w S K O X before now status h read write
 
 pub complete_of : (told : Option Files) (found : Option Wish) (wish : Wish) (S K O X : Type 0) (before now : Option (List ℕ)) (status : Status) → found ≡ Some wish
-    → IfSome (reply_wanted told (Some wish)) (λ w. Replies w before now status) → (status ≡ ReadFault → S) → (status ≡ WriteFault → O ⊎ (X × K))
-    → IfSome (reply_wanted told found) (λ w. (status ≡ Memory) ⊎ (S ⊎ (K ⊎ (O ⊎ IsGiven w before now status))))
+    → IfSome ((promised (Some wish)).reply told) (λ w. Replies w before now status) → (status ≡ ReadFault → S) → (status ≡ WriteFault → O ⊎ (X × K))
+    → IfSome ((promised found).reply told) (λ w. (status ≡ Memory) ⊎ (S ⊎ (K ⊎ (O ⊎ IsGiven w before now status))))
 complete_of told found wish S K O X before now status is replies read write =
-    let P : Option Wish → Type 0 = λ o. IfSome (reply_wanted told o) (λ w. (status ≡ Memory) ⊎ (S ⊎ (K ⊎ (O ⊎ IsGiven w before now status)))) in
-    subst P (sym is) (all_given_or_not (reply_wanted told (Some wish)) S K O X before now status replies read write)
+    let P : Option Wish → Type 0 = λ o. IfSome ((promised o).reply told) (λ w. (status ≡ Memory) ⊎ (S ⊎ (K ⊎ (O ⊎ IsGiven w before now status)))) in
+    subst P (sym is) (all_given_or_not ((promised (Some wish)).reply told) S K O X before now status replies read write)
 
 -- a failed write of what was found to be asked for
-pub failed_write_of : (found : Option Wish) (wish : Wish) (F O K : Type 0) → found ≡ Some wish → (F → O ⊎ ((puts_files (Some wish) ≡ true) × K)) → F → O ⊎ ((puts_files found ≡ true) × K)
-failed_write_of found wish F O K is cause = let P : Option Wish → Type 0 = λ o. F → O ⊎ ((puts_files o ≡ true) × K) in subst P (sym is) cause
+pub failed_write_of : (found : Option Wish) (wish : Wish) (F O K : Type 0) → found ≡ Some wish → (F → O ⊎ (((promised (Some wish)).puts ≡ true) × K)) → F → O ⊎ (((promised found).puts ≡ true) × K)
+failed_write_of found wish F O K is cause = let P : Option Wish → Type 0 = λ o. F → O ⊎ (((promised o).puts ≡ true) × K) in subst P (sym is) cause
 
 -- ---- the check
 

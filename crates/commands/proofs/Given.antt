@@ -1,24 +1,20 @@
 -- The words of a command: a word that begins with a hyphen is neither a number nor coordinates, and no scheme.
 use Rattle.std.proofs.Common.{◌≡◌, ◌≢◌, ℕ, suc, Bool, true, false, List, [], ◌∷◌, refl, sym, ap, ◌∙◌, arith, length, is_some}
 use Rattle.std.specs.Prelude.{Option, Some, None, option_and_then, option_map, ◌||◌, ◌&&◌, ◌==◌, ◌^◌, if◌then◌else◌, nat_lt}
-use Rattle.std.specs.List.{join_with_byte, list_any, slice_split, onto_first}
+use Rattle.std.specs.List.{list_any, slice_split, onto_first}
 use Rattle.std.specs.Str.{bytes_eq}
 use Rattle.std.specs.Str.Parse.{digits_value}
 use Rattle.std.proofs.lemmas.Bool.Decides.{nat_tests}
 use Rattle.clap.specs.Lexer.{long_of, short_of}
 use Rattle.implicit_tiling.specs.declared.Scheme.{Scheme}
 use Rattle.implicit_tiling.specs.Request.{begins_well, number, numbers, numbers_of_pieces, coordinates_in, line_of_words}
-use Rattle.commands.specs.Values.{AskNothing}
-use Rattle.commands.specs.Words.{tiles, tiles_asked, check_asked, scheme_of_word, recipe_of_numbers, recipe_of_words, without_dashes}
+use Rattle.commands.specs.Commands.{tiles, tiles_asked, check_asked}
+use Rattle.commands.specs.Words.{begins_with_hyphen, has_hyphen, scheme_of_word, recipe_of_numbers, recipe_of_words, without_dashes}
 
 -- a word before `--` begins with a hyphen, and is not `-`
 abbrev pub has_flag : List (List ℕ) → Bool
 has_flag [] = false
 has_flag (w ∷ ws) = if bytes_eq w (45 ∷ 45 ∷ []) then false else is_some (long_of w) || (is_some (short_of w) || has_flag ws)
-
-abbrev begins_with_hyphen : List ℕ → Bool
-begins_with_hyphen [] = false
-begins_with_hyphen (c ∷ cs) = c == 45
 
 no_bool : false ≡ true → ⊥
 no_bool h = grind (arith, h)
@@ -127,16 +123,16 @@ no_line a b c false false true p q r h = none_after (number a) _ (λ n. none_aft
 no_line a b c false false false p q r h = absurd (no_bool h)
 
 none_asked : (words : List (List ℕ)) → line_of_words words ≡ None → tiles_asked words ≡ None
-none_asked words none = ap (option_map (λ line. tiles (join_with_byte 32 words))) none
+none_asked words none = ap (option_map tiles) none
 
-no_tiles : (words : List (List ℕ)) → list_any begins_with_hyphen words ≡ true → tiles_asked words ≡ None
+pub no_tiles : (words : List (List ℕ)) → has_hyphen words ≡ true → tiles_asked words ≡ None
 no_tiles [] h = absurd (no_bool h)
 no_tiles (a ∷ []) h = refl
 no_tiles (a ∷ b ∷ []) h = refl
 no_tiles (a ∷ b ∷ c ∷ []) h = none_asked (a ∷ b ∷ c ∷ []) (no_line a b c _ _ _ refl refl refl h)
 no_tiles (a ∷ b ∷ c ∷ d ∷ more) h = refl
 
-no_check : (words : List (List ℕ)) → list_any begins_with_hyphen words ≡ true → check_asked words ≡ None
+pub no_check : (words : List (List ℕ)) → has_hyphen words ≡ true → check_asked words ≡ None
 no_check [] h = absurd (no_bool h)
 no_check (a ∷ more) h = refl
 
@@ -162,12 +158,9 @@ no_recipe_by : (b : Bool) (w : List ℕ) (ws : List (List ℕ)) → begins_with_
 no_recipe_by true w ws is h = ap (option_and_then _) (no_scheme w is)
 no_recipe_by false w ws is h = none_after (scheme_of_word w) _ (λ scheme. ap (option_and_then (recipe_of_numbers scheme)) (no_numbers ws h))
 
-no_recipe : (words : List (List ℕ)) → list_any begins_with_hyphen words ≡ true → recipe_of_words words ≡ None
+pub no_recipe : (words : List (List ℕ)) → has_hyphen words ≡ true → recipe_of_words words ≡ None
 no_recipe [] h = absurd (no_bool h)
 no_recipe (w ∷ ws) h = no_recipe_by (begins_with_hyphen w) w ws refl h
 
-nothing_asked : (words : List (List ℕ)) → list_any begins_with_hyphen words ≡ true → AskNothing words
-nothing_asked words h = (no_tiles words h, no_check words h, no_recipe words h)
-
-pub flags_ask_nothing : (words : List (List ℕ)) → has_flag words ≡ true → AskNothing (without_dashes words)
-flags_ask_nothing words h = nothing_asked (without_dashes words) (hyphened words h)
+pub flags_are_hyphens : (words : List (List ℕ)) → has_flag words ≡ true → has_hyphen (without_dashes words) ≡ true
+flags_are_hyphens words h = hyphened words h

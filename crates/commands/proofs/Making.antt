@@ -3,16 +3,17 @@ use Rattle.std.proofs.Common.{◌≡◌, ℕ, List, [], length, refl, sym, ap₂
 use Rattle.std.specs.Prelude.{Option, Some, None, Ok}
 use Rattle.std.proofs.KnownBytes.{Keeps-refl}
 use Rattle.implicit_tiling.specs.Files.{Files}
-use Rattle.implicit_tileset.specs.Scene.{scene_of, layout_in as layout_of_files}
+use Rattle.implicit_tileset.specs.Scene.{scene_of, layout_in}
 use Rattle.scene_ports.specs.Output.{GivesFront}
 use Rattle.build_laws.specs.Holds.{HoldsTiles}
 use Rattle.tile_builder.specs.Puts.{ArePut, IsCut, IfTold}
 use Rattle.tileset_make.specs.declared.recipe.Recipe.{Recipe}
 use Rattle.tileset_make.specs.Recipes.{recipe_layout, recipe_words, recipe_files, Found, survey_of}
 use Rattle.request_text.specs.Made.{made_text, survey_text}
-use Rattle.commands.specs.declared.status.Status.TheVariants.{Done, WriteFault, Memory}
-use Rattle.commands.specs.Replies.{IsBegun, IsMade, Leaves, LeavesWanted, PutsFirst, make_reply, survey_reply}
-use Rattle.commands.specs.Words.{Wish, tiles, check, make, survey}
+use Rattle.program_status.specs.declared.status.Status.TheVariants.{Done, WriteFault, Memory}
+use Rattle.commands.specs.Replies.{IsBegun}
+use Rattle.commands.specs.Make.{IsMade, Leaves, MakeLeaves, PutsFirst, make_reply}
+use Rattle.commands.specs.Survey.{survey_reply}
 
 told_all : (before now : Option Files) (P Q : Files → Files → Type 0) → ((b n : Files) → P b n → Q b n) → IfTold before now P → IfTold before now Q
 told_all None now P Q f h = tt
@@ -29,32 +30,24 @@ left_whole before now r = told_all before now (ArePut (recipe_files r)) (λ b n.
 pub left_in_memory : (before now : Option Files) (r : Recipe) → IfTold before now (ArePut (recipe_files r)) → IfTold before now (λ b n. Leaves r b n Memory)
 left_in_memory before now r = told_all before now (ArePut (recipe_files r)) (λ b n. Leaves r b n Memory) (λ b n put. whole (recipe_files r) b n put)
 
-pub left_made : (before now : Option Files) (r : Recipe) → IfTold before now (ArePut (recipe_files r)) → IfTold before now (λ b n. layout_of_files n ≡ Ok (recipe_layout r))
+pub left_made : (before now : Option Files) (r : Recipe) → IfTold before now (ArePut (recipe_files r)) → IfTold before now (λ b n. layout_in n ≡ Ok (recipe_layout r))
     → IfTold before now (λ b n. HoldsTiles (scene_of n (recipe_layout r)) (recipe_words r)) → IfTold before now (λ b n. Leaves r b n Done)
 left_made None now r put layout holds = tt
 left_made (Some b) None r put layout holds = put
 left_made (Some b) (Some n) r put layout holds = record { put = put; layout = layout; holds = holds }
 
-pub first_made : (before now : Option Files) (r : Recipe) (X : Type 0) → IfTold before now (ArePut (recipe_files r)) → IfTold before now (λ b n. layout_of_files n ≡ Ok (recipe_layout r))
+pub first_made : (before now : Option Files) (r : Recipe) (X : Type 0) → IfTold before now (ArePut (recipe_files r)) → IfTold before now (λ b n. layout_in n ≡ Ok (recipe_layout r))
     → IfTold before now (λ b n. HoldsTiles (scene_of n (recipe_layout r)) (recipe_words r)) → X ⊎ IfTold before now (IsMade r)
 first_made before now r X put layout holds = inr (left_made before now r put layout holds)
 
 -- where nothing was given, the files come first
-pub nothing_first : (found : Option Wish) (kept : Option Files) (before : Option (List ℕ)) → PutsFirst found kept kept before before
-nothing_first None kept before = tt
-nothing_first (Some (tiles line)) kept before = tt
-nothing_first (Some check) kept before = tt
-nothing_first (Some (make r)) kept before = inl (Keeps-refl before)
-nothing_first (Some (survey r)) kept before = tt
+pub nothing_put : (r : Recipe) (kept : Option Files) (before : Option (List ℕ)) → PutsFirst r kept kept before before
+nothing_put r kept before = inl (Keeps-refl before)
 
 -- a call that wants memory before anything is put leaves all as it was
-pub nothing_left : (found : Option Wish) (kept : Option Files) → LeavesWanted found kept kept Memory
-nothing_left None kept = tt
-nothing_left (Some (tiles line)) kept = tt
-nothing_left (Some check) kept = tt
-nothing_left (Some (make r)) None = tt
-nothing_left (Some (make r)) (Some files) = record { done = []; rest = recipe_files r; parts = refl; put = λ name. refl }
-nothing_left (Some (survey r)) kept = tt
+pub nothing_made : (r : Recipe) (kept : Option Files) → MakeLeaves r kept kept Memory
+nothing_made r None = tt
+nothing_made r (Some files) = record { done = []; rest = recipe_files r; parts = refl; put = λ name. refl }
 
 -- a front of the text of what was made
 pub made_front : (r : Recipe) (files count : ℕ) (before now : Option (List ℕ)) → files ≡ length (recipe_files r) → count ≡ length (recipe_words r)

@@ -1,8 +1,7 @@
 -- The values of a command by `clap` (this project's own).
-use Rattle.std.specs.Prelude.{ℕ, List, [], Some, None, ◌≡◌, codes, true, option_map, unwrap_or}
+use Rattle.std.specs.Prelude.{ℕ, List, [], Some, codes, true, option_map, unwrap_or}
 use Rattle.clap.specs.Lexer.{usize_max}
 use Rattle.clap.specs.Words.{App, Rule, new_app, new_rule, with_rule, found_of, matched_of, raw_values}
-use Rattle.commands.specs.Words.{tiles_asked, check_asked, recipe_of_words}
 use Rattle.clap.specs.declared.parser.matches.ArgMatches.{ArgMatches}
 
 -- the one argument, of any number of values
@@ -16,7 +15,3 @@ command name = with_rule (record (new_app name) { top = record (new_app name).to
 -- the values that were found
 abbrev pub values_of : ArgMatches → List (List ℕ)
 values_of matches = unwrap_or (option_map raw_values (matched_of (found_of matches) (codes "values"))) []
-
--- these words are no command's
-abbrev pub AskNothing : List (List ℕ) → Type 0
-AskNothing words = (tiles_asked words ≡ None) × (check_asked words ≡ None) × (recipe_of_words words ≡ None)

@@ -1,9 +1,10 @@
 // Fetching the layout.
 ghost use Rattle.std.specs.Prelude.{◌≡◌, ◌≤◌, Err, IfSome, IfErr};
 ghost use Rattle.scene_ports.specs.Counts.{Rose};
-ghost use Rattle.commands.specs.Replies.{layout_in, Agrees, IsEarly};
+ghost use Rattle.program_status.specs.Sets.{IsOneOf};
+ghost use Rattle.commands.specs.Replies.{layout_wanted, Agrees, early_ends};
 
-use crate::status::Status;
+use program_status::Status;
 use scene_ports::{Fetch, FileSource, MOST_FILE_BYTES};
 use std::alloc::Global;
 use tileset_json::{Layout, LayoutFault};
@@ -15,8 +16,8 @@ const TOO_LONG: u64 = 2;
 
 /// Fetches `tileset.json` and reads the layout. The `Err` is the status with which the program ends.
 pub(crate) fn fetch_layout<S: FileSource>(alloc: Global, files: &mut S) -> Result<Layout, Status>
-    ensures agrees { IfSome (S.told files.old) (λ all. Agrees (layout_in all) result) }
-    ensures early { IfErr result IsEarly }
+    ensures agrees { IfSome (S.told files.old) (λ all. Agrees (layout_wanted all) result) }
+    ensures early { IfErr result (IsOneOf early_ends) }
     ensures failed { result ≡ Err Status.ReadFault → Rose (S.faults files.old) (S.faults files.new) }
     ensures later { S.faults files.old ≤ S.faults files.new }
     ensures same { S.told files.new ≡ S.told files.old }

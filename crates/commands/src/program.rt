@@ -1,21 +1,51 @@
-// The top call.
-ghost use Rattle.std.specs.Prelude.{◌≡◌, ◌≢◌, ◌⊎◌, ◌<◌, Ok, Some, None, true, false, map, string_bytes, IfSome};
+// The top call, and the tables over all commands: what a command line asks for, by which name, and what then runs.
+ghost use Rattle.std.specs.Prelude.{◌≡◌, ◌⊎◌, ◌≤◌, Some, true, false, map, string_bytes, IfSome};
 ghost use Rattle.std.specs.Io.KnownBytes.{Keeps};
 ghost use Rattle.scene_ports.specs.Counts.{Rose};
-ghost use Rattle.commands.specs.Words.{asked, asked_seen};
-ghost use Rattle.commands.specs.Replies.{Replies, IsGiven, IsBeforeWriting, IsOfMaking, IsRefused, LeavesWanted, PutsFirst, reply_wanted, puts_files, reads_files};
+ghost use Rattle.program_status.specs.Sets.{IsOneOf};
+ghost use Rattle.commands.specs.Commands.{asked, asked_seen, promised, IsReadAs};
+ghost use Rattle.commands.specs.Replies.{Replies, IsGiven, IsBeforeWriting};
 
-use crate::answer::answer_tiles;
-use crate::check::answer_check;
-use crate::make::answer_make;
-use crate::status::Status;
-use crate::survey::answer_survey;
-use crate::words::{Asked, WordFault, words_of};
+use crate::words::WordFault;
+use crate::{check, make, survey, tiles};
+use program_status::Status;
+use request_text::Line;
 use scene_ports::{FileKeeper, FileSource, Inlet, Outlet};
 use std::alloc::Global;
+use tileset_make::Recipe;
+
+/// What a command line asks for.
+#[derive(Debug, Drop)]
+pub enum Asked {
+    /// The answer to a request line, LEVEL LO HI.
+    Tiles { line: Line },
+    /// A check of all subtree files.
+    Check,
+    /// The files of a recipe, SCHEME LEVELS SUBTREE CONTENTS POINTS NUMBER.
+    Make { recipe: Recipe },
+    /// A survey of the files of a recipe, whose subtrees have at most 4 levels.
+    Survey { recipe: Recipe },
+}
+
+/// What the words behind the program's name ask for: a command's name, then its words, of which the first that is `--` is
+/// dropped. Usage exactly where they are not the words of a command.
+pub fn words_of(alloc: Global, words: &[String]) -> Result<Asked, WordFault>
+    ensures { IsReadAs (asked (map string_bytes words.now)) result }
+{
+    let Some((name, _)) = words.split_first() else {
+        return Err(WordFault::Usage);
+    };
+    match name.as_str() {
+        "tiles" => tiles::read(alloc, words),
+        "check" => check::read(alloc, words),
+        "make" => make::read(alloc, words),
+        "survey" => survey::read(alloc, words),
+        _ => Err(WordFault::Usage),
+    }
+}
 
 /// Runs a command over files, a keeper of files, an inlet and an outlet: the words are read, then the layout is fetched,
-/// then the request line is read, then the work is done, then the text is given. `make` and `survey` fetch no file.
+/// then the request line is held against it, then the work is done, then the text is given. `make` and `survey` fetch no file.
 pub fn plain<S: FileSource, K: FileKeeper, I: Inlet, O: Outlet>(
     alloc: Global,
     words: &[String],
@@ -24,36 +54,36 @@ pub fn plain<S: FileSource, K: FileKeeper, I: Inlet, O: Outlet>(
     input: &mut I,
     out: &mut O,
 ) -> Status
-    // What was given, and the status, are those of the reply that the words get over the files.
-    ensures replies { IfSome (reply_wanted (S.told files.old) (asked (map string_bytes words.now))) (λ wanted. Replies wanted (O.given out.old) (O.given out.new) result) }
+    // What was given, and the status, are those of the reply that is promised.
+    ensures replies { IfSome ((promised (asked (map string_bytes words.now))).reply (S.told files.old)) (λ wanted. Replies wanted (O.given out.old) (O.given out.new) result) }
 
     // Where no device fails and there is memory, the whole reply is given, and nothing else.
-    ensures complete { IfSome (reply_wanted (S.told files.old) (asked (map string_bytes words.now))) (λ wanted. (result ≡ Status.Memory)
+    ensures complete { IfSome ((promised (asked (map string_bytes words.now))).reply (S.told files.old)) (λ wanted. (result ≡ Status.Memory)
         ⊎ (Rose (S.faults files.old) (S.faults files.new) ⊎ (Rose (K.faults keep.old) (K.faults keep.new) ⊎ (Rose (O.faults out.old) (O.faults out.new)
         ⊎ IsGiven wanted (O.given out.old) (O.given out.new) result)))) }
 
-    // Words that ask for nothing are refused, whatever the source tells.
-    ensures unasked { asked (map string_bytes words.now) ≡ None → IsRefused result × Keeps (O.given out.old) (O.given out.new) }
-
-    // The causes of failures, and what they leave.
+    // The statuses, whatever the source tells; the causes of failures, and what they leave.
+    ensures ends { IsOneOf (promised (asked (map string_bytes words.now))).ends result }
     ensures nothing { IsBeforeWriting result → Keeps (O.given out.old) (O.given out.new) }
     ensures read_fault { result ≡ Status.ReadFault → Rose (S.faults files.old) (S.faults files.new) }
     ensures write_fault { result ≡ Status.WriteFault → Rose (O.faults out.old) (O.faults out.new)
-        ⊎ ((puts_files (asked (map string_bytes words.now)) ≡ true) × Rose (K.faults keep.old) (K.faults keep.new)) }
+        ⊎ (((promised (asked (map string_bytes words.now))).puts ≡ true) × Rose (K.faults keep.old) (K.faults keep.new)) }
 
-    // The files that `make` leaves, all of them before any text. No other command puts one; `make`, `survey` and words that
-    // ask for nothing read none.
-    ensures leaves { LeavesWanted (asked (map string_bytes words.now)) (K.kept keep.old) (K.kept keep.new) result }
-    ensures first { PutsFirst (asked (map string_bytes words.now)) (K.kept keep.old) (K.kept keep.new) (O.given out.old) (O.given out.new) }
-    ensures kept { puts_files (asked (map string_bytes words.now)) ≡ false → keep.new ≡ keep.old }
-    ensures unread { reads_files (asked (map string_bytes words.now)) ≡ false → (files.new ≡ files.old) × (result ≢ Status.ReadFault) }
+    // The files that are left, and which of them stand before any text.
+    ensures leaves { (promised (asked (map string_bytes words.now))).leaves (K.kept keep.old) (K.kept keep.new) result }
+    ensures first { (promised (asked (map string_bytes words.now))).first (K.kept keep.old) (K.kept keep.new) (O.given out.old) (O.given out.new) }
 
-    // Words that read no file end with the whole text, with a write that failed, or for want of memory.
-    ensures made { IfSome (asked (map string_bytes words.now)) (λ wish. reads_files (Some wish) ≡ false → IsOfMaking result) }
-
-    // The inlet is not touched, and neither is what the outlet is beside one.
-    ensures left { input.new ≡ input.old }
+    // What isn't used stays as it is: the source, the keeper, the inlet, and what the outlet is beside one.
+    ensures unread { (promised (asked (map string_bytes words.now))).reads ≡ false → files.new ≡ files.old }
+    ensures kept { (promised (asked (map string_bytes words.now))).puts ≡ false → keep.new ≡ keep.old }
+    ensures untaken { (promised (asked (map string_bytes words.now))).takes ≡ false → input.new ≡ input.old }
     ensures aside { O.inlet_aside out.new ≡ O.inlet_aside out.old }
+
+    // What the source tells stays told, and no count of faults falls.
+    ensures same { S.told files.new ≡ S.told files.old }
+    ensures later_files { S.faults files.old ≤ S.faults files.new }
+    ensures later_keep { K.faults keep.old ≤ K.faults keep.new }
+    ensures later_out { O.faults out.old ≤ O.faults out.new }
 {
     let _ = input;
     match words_of(alloc, words) {
@@ -71,22 +101,26 @@ fn run<S: FileSource, K: FileKeeper, O: Outlet>(
     keep: &mut K,
     out: &mut O,
 ) -> Status
-    ensures replies { IfSome (reply_wanted (S.told files.old) (Some (asked_seen asked.now))) (λ wanted. Replies wanted (O.given out.old) (O.given out.new) result) }
+    ensures replies { IfSome ((promised (Some (asked_seen asked.now))).reply (S.told files.old)) (λ wanted. Replies wanted (O.given out.old) (O.given out.new) result) }
+    ensures ends { IsOneOf (promised (Some (asked_seen asked.now))).ends result }
     ensures nothing { IsBeforeWriting result → Keeps (O.given out.old) (O.given out.new) }
     ensures read_fault { result ≡ Status.ReadFault → Rose (S.faults files.old) (S.faults files.new) }
     ensures write_fault { result ≡ Status.WriteFault → Rose (O.faults out.old) (O.faults out.new)
-        ⊎ ((puts_files (Some (asked_seen asked.now)) ≡ true) × Rose (K.faults keep.old) (K.faults keep.new)) }
-    ensures leaves { LeavesWanted (Some (asked_seen asked.now)) (K.kept keep.old) (K.kept keep.new) result }
-    ensures first { PutsFirst (Some (asked_seen asked.now)) (K.kept keep.old) (K.kept keep.new) (O.given out.old) (O.given out.new) }
-    ensures kept { puts_files (Some (asked_seen asked.now)) ≡ false → keep.new ≡ keep.old }
-    ensures unread { reads_files (Some (asked_seen asked.now)) ≡ false → (files.new ≡ files.old) × (result ≢ Status.ReadFault) }
-    ensures made { reads_files (Some (asked_seen asked.now)) ≡ false → IsOfMaking result }
+        ⊎ (((promised (Some (asked_seen asked.now))).puts ≡ true) × Rose (K.faults keep.old) (K.faults keep.new)) }
+    ensures leaves { (promised (Some (asked_seen asked.now))).leaves (K.kept keep.old) (K.kept keep.new) result }
+    ensures first { (promised (Some (asked_seen asked.now))).first (K.kept keep.old) (K.kept keep.new) (O.given out.old) (O.given out.new) }
+    ensures unread { (promised (Some (asked_seen asked.now))).reads ≡ false → files.new ≡ files.old }
+    ensures kept { (promised (Some (asked_seen asked.now))).puts ≡ false → keep.new ≡ keep.old }
     ensures aside { O.inlet_aside out.new ≡ O.inlet_aside out.old }
+    ensures same { S.told files.new ≡ S.told files.old }
+    ensures later_files { S.faults files.old ≤ S.faults files.new }
+    ensures later_keep { K.faults keep.old ≤ K.faults keep.new }
+    ensures later_out { O.faults out.old ≤ O.faults out.new }
 {
     match asked {
-        Asked::Tiles { line } => answer_tiles(alloc, line.as_str(), files, out),
-        Asked::Check => answer_check(alloc, files, out),
-        Asked::Make { recipe } => answer_make(alloc, recipe, keep, out),
-        Asked::Survey { recipe } => answer_survey(alloc, recipe, out),
+        Asked::Tiles { line } => tiles::run(alloc, line, files, out),
+        Asked::Check => check::run(alloc, files, out),
+        Asked::Make { recipe } => make::run(alloc, recipe, keep, out),
+        Asked::Survey { recipe } => survey::run(alloc, recipe, out),
     }
 }

@@ -13,7 +13,7 @@ mod text;
 
 pub use check_text::write_check;
 pub use length::answer_length;
-pub use line::{Refusal, is_coordinates, is_number, parse_line, read_number};
+pub use line::{Line, Refusal, is_coordinates, is_number, line_of, parse_line, read_number};
 pub use made_text::{write_made, write_survey};
 pub use text::{write_answer, write_refusal};
 

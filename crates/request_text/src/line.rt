@@ -15,9 +15,9 @@ enum Coordinates {
     Three(u32, u32, u32),
 }
 
-/// The numbers of a line.
+/// The numbers of a request line: a level and the two corners of a box.
 #[derive(Clone, Copy, Debug, PartialEq, Eq)]
-struct Line {
+pub struct Line {
     level: u32,
     lo: Coordinates,
     hi: Coordinates,
@@ -60,7 +60,16 @@ pub fn parse_line(layout: &Layout, line: &[u8]) -> Result<Plan, u64>
     let Some(line) = read_line(line) else {
         return Err(Refusal::NotALine.number());
     };
-    plan_of(layout.scheme, layout.levels, &line)
+    line.plan(layout)
+}
+
+impl Line {
+    /// The plan of the line over a layout, or the number of the first of the rules 2 to 5 that refuses it.
+    pub fn plan(&self, layout: &Layout) -> Result<Plan, u64>
+        ensures { result ≡ plan_of_line layout.now.scheme layout.now.levels (Some (line_seen self.now)) }
+    {
+        plan_of(layout.scheme, layout.levels, self)
+    }
 }
 
 // The plan of a line that was read, or the number of the first of the rules 2 to 5.
@@ -102,7 +111,8 @@ fn read_line(line: &[u8]) -> Option<Line>
     line_of(level, lo, hi)
 }
 
-fn line_of(level: &[u8], lo: &[u8], hi: &[u8]) -> Option<Line>
+/// The line of three words, LEVEL LO HI. None exactly where one hasn't its form.
+pub fn line_of(level: &[u8], lo: &[u8], hi: &[u8]) -> Option<Line>
     ensures { option_map line_seen result ≡ line_of_words (level.now ∷ lo.now ∷ hi.now ∷ []) }
 {
     let level = read_number(level)?;

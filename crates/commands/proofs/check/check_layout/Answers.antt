@@ -14,7 +14,7 @@ returns-in-Ok-write_check-clause-replies g c =
     let found = rw c.deref.ensures.value at c.in-Ok-write_check.ensures.given in
     let given = rw same at found in
     let empty : c.is_empty.result ≡ (length c.check_all.new.found.items == 0) = c.is_empty.ensures ∙ ap (λ n. n == 0) c.check_all.new.found.ok.0 in
-    told_checked _ c.args.layout.now _ c.in-Ok.end c.is_empty.result c.status_of.result _ _ (subst IsWithinLimits c.layout.view_is c.layout.invariant) c.in-Ok.ensures.checked given (empty_means _ c.is_empty.result empty) c.status_of.ensures
+    told_checked _ c.args.layout.now _ c.in-Ok.end c.is_empty.result c.status_of.result _ _ (subst IsWithinLimits c.layout.view_is c.layout.invariant) c.in-Ok.ensures.checked given (empty_means _ c.is_empty.result empty) c.status_of.ensures.status
 
 pub returns-in-Err-WriteFault-clause-replies : goal.returns-in-Err-WriteFault-clause-replies
 returns-in-Err-WriteFault-clause-replies g c =

@@ -6,7 +6,7 @@ use Rattle.clap.specs.Words.{App, Text, Row, is_simple, is_simple_and_free, faul
 use Rattle.clap.proofs.WalkLemmas.{raw_values-rows}
 use Rattle.commands.specs.Values.{command}
 use Rattle.commands.specs.Words.{without_dashes}
-use Rattle.commands.proofs.Given.{has_flag, true_of, flags_ask_nothing}
+use Rattle.commands.proofs.Given.{has_flag, true_of, flags_are_hyphens}
 use Rattle.commands.proofs.Walks.{simple, free, accepted, is_taken, short}
 use Rattle.commands.proofs.words.matches_of.Goals as goal
 
@@ -29,7 +29,7 @@ returns c =
       refused = λ e.
           let fits : length (without_dashes behind) ≤ usize_max =
           omega (arith, short behind, length-drop 1 words, length-map c.args.words.now string_bytes, c.count_of-count.ensures, c.count_of-count.type_inv) in
-          flags_ask_nothing behind (true_of (has_flag behind) (λ plain.
+          flags_are_hyphens behind (true_of (has_flag behind) (λ plain.
           let is_memory = c.in-Err.ensures.passes (ap (λ (a : App). takes a words) app ∙ is_taken c.args.name.now words plain fits) in
           c.in_default.not-OutOfMemory (c.kind.ensures ∙ is_memory)));
     }

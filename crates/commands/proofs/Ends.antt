@@ -1,0 +1,51 @@
+-- The statuses of calls, and the table of what is left where there is no memory to read the words.
+use Rattle.std.proofs.Common.{◌≡◌, ℕ, ◌≤◌, List, ◌∷◌, refl, sym, subst, arith}
+use Rattle.std.specs.Prelude.{Option, Some, None}
+use Rattle.implicit_tiling.specs.Files.{Files}
+use Rattle.program_status.specs.Sets.{IsOneOf}
+use Rattle.program_status.proofs.Members.{in_larger, numbered}
+use Rattle.program_status.specs.declared.status.Status.{Status}
+use Rattle.program_status.specs.declared.status.Status.TheVariants.{Done, Faulted, Usage, BadLayout, WriteFault, Memory}
+use Rattle.commands.specs.Commands.{Wish, tiles, check, make, survey, promised}
+use Rattle.commands.specs.Replies.{early_ends}
+use Rattle.commands.specs.Tiles.{tiles_ends}
+use Rattle.commands.specs.Check.{check_ends}
+use Rattle.commands.proofs.Making.{nothing_made, nothing_put}
+
+-- a fault of the bytes of `tileset.json`
+pub early_number : (number : ℕ) → (3 ≤ number) × (number ≤ 12) → IsOneOf early_ends (BadLayout number)
+early_number number within = numbered number (let low = within.0 in omega (arith, low)) within.1
+
+-- a call that gets no layout
+pub tiles_early : (status : Status) → IsOneOf early_ends status → IsOneOf tiles_ends status
+tiles_early status h =
+    in_larger Done (Faulted ∷ Usage ∷ WriteFault ∷ early_ends) status
+    (in_larger Faulted (Usage ∷ WriteFault ∷ early_ends) status (in_larger Usage (WriteFault ∷ early_ends) status (in_larger WriteFault early_ends status h)))
+
+pub check_early : (status : Status) → IsOneOf early_ends status → IsOneOf check_ends status
+check_early status h =
+    in_larger Done (Faulted ∷ WriteFault ∷ early_ends) status (in_larger Faulted (WriteFault ∷ early_ends) status (in_larger WriteFault early_ends status h))
+
+-- ---- no memory to read the words
+
+pub memory_ends : (found : Option Wish) → IsOneOf (promised found).ends Memory
+memory_ends None = tt
+memory_ends (Some (tiles line)) = tt
+memory_ends (Some check) = tt
+memory_ends (Some (make r)) = tt
+memory_ends (Some (survey r)) = tt
+
+pub memory_leaves : (found : Option Wish) (kept : Option Files) → (promised found).leaves kept kept Memory
+memory_leaves None kept = refl
+memory_leaves (Some (tiles line)) kept = refl
+memory_leaves (Some check) kept = refl
+memory_leaves (Some (make r)) kept = nothing_made r kept
+memory_leaves (Some (survey r)) kept = refl
+
+-- where nothing was given, no file has to stand
+pub nothing_first : (found : Option Wish) (kept : Option Files) (before : Option (List ℕ)) → (promised found).first kept kept before before
+nothing_first None kept before = tt
+nothing_first (Some (tiles line)) kept before = tt
+nothing_first (Some check) kept before = tt
+nothing_first (Some (make r)) kept before = nothing_put r kept before
+nothing_first (Some (survey r)) kept before = tt

@@ -1,0 +1,22 @@
+use Rattle.std.proofs.Common.{subst}
+use Rattle.tileset_json.specs.Limits.{IsWithinLimits}
+use Rattle.commands.proofs.Answering.{of_each, nothing_given, told_replies, told_begun}
+use Rattle.commands.proofs.tiles.answer_plan.Goals as goal
+
+pub returns-in-Err-Memory-clause-replies : goal.returns-in-Err-Memory-clause-replies
+returns-in-Err-Memory-clause-replies g c = of_each _ _ (λ all. nothing_given _ _)
+
+pub returns-in-Ok-write_answer-clause-replies : goal.returns-in-Ok-write_answer-clause-replies
+returns-in-Ok-write_answer-clause-replies g c =
+    let given = rw c.deref.ensures.value at c.in-Ok-write_answer.ensures.given in
+    told_replies _ c.args.layout.now c.args.plan.now _ c.in-Ok.end _ _ c.status_of.result c.requires (subst IsWithinLimits c.layout.view_is c.layout.invariant) c.in-Ok.ensures.answer given c.status_of.ensures.status
+
+pub returns-in-Err-WriteFault-clause-replies : goal.returns-in-Err-WriteFault-clause-replies
+returns-in-Err-WriteFault-clause-replies g c =
+    let front = rw c.deref.ensures.value at c.write_answer.ensures.front in
+    told_begun _ c.args.layout.now c.args.plan.now _ c.in-Ok.end _ _ c.requires (subst IsWithinLimits c.layout.view_is c.layout.invariant) c.in-Ok.ensures.answer front
+
+pub returns-clause-replies : goal.returns-clause-replies
+returns-clause-replies g c =
+    let front = rw c.deref.ensures.value at c.write_answer.ensures.front in
+    told_begun _ c.args.layout.now c.args.plan.now _ c.in-Ok.end _ _ c.requires (subst IsWithinLimits c.layout.view_is c.layout.invariant) c.in-Ok.ensures.answer front
