@@ -1,4 +1,4 @@
--- The values of a command by `clap` (this project's own).
+-- For proofs and inner functions: the values of a command by `clap` (this project's own).
 use Rattle.std.specs.Prelude.{ℕ, List, [], Some, codes, true, option_map, unwrap_or}
 use Rattle.clap.specs.Lexer.{usize_max}
 use Rattle.clap.specs.Words.{App, Rule, new_app, new_rule, with_rule, found_of, matched_of, raw_values}

@@ -1,4 +1,4 @@
--- For proofs and inner functions: what the parts of a request line are read to (this project's own).
+-- What the parts of a request line are read to (this project's own).
 use Rattle.std.specs.Prelude.{ℕ, ◌≡◌, ◌==◌, List, [], ◌∷◌, length, Option, Some, None, if◌then◌else◌}
 use Rattle.std.specs.List.{slice_split}
 use denote.Ref.{Bor}
