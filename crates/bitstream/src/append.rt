@@ -1,5 +1,6 @@
 // Bits as bytes, appended.
-ghost use Rattle.std.specs.Prelude.{◌≡◌, ◌+◌, ◌-◌, ◌*◌, ◌/◌, ◌%◌, ◌^◌, ◌<◌, ◌≤◌, ◌++◌, OnOk, OnErr, length, replicate, slice_index, vec_len};
+ghost use Rattle.std.specs.Prelude.{◌≡◌, ◌+◌, ◌-◌, ◌*◌, ◌/◌, ◌%◌, ◌^◌, ◌<◌, ◌≤◌, ◌++◌, OnOk, OnErr, length};
+ghost use Rattle.std.specs.Prelude.{replicate, slice_index, vec_len};
 ghost use Rattle.std.specs.List.{slice_set};
 ghost use Rattle.bitstream.specs.Bits.{bits_of_bytes};
 ghost use Rattle.bitstream.specs.Bytes.{bytes_of_bits};
@@ -36,7 +37,8 @@ pub(crate) fn append_constant(bit: bool, count: u64, out: &mut Vec<u8>) -> Resul
 fn keep_lowest(out: &mut Vec<u8>, used: u64)
     requires some { 0 < vec_len out.old }
     requires few { used < 8 }
-    ensures { out.new.items ≡ slice_set out.old.items (length out.old.items - 1) (slice_index out.old.items (length out.old.items - 1) % 2 ^ used) }
+    ensures { out.new.items ≡ slice_set out.old.items (length out.old.items - 1)
+        (slice_index out.old.items (length out.old.items - 1) % 2 ^ used) }
 {
     let last = out.len() - 1;
     out[last] &= (1 << used) - 1;

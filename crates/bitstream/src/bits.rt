@@ -1,6 +1,8 @@
 // Bits: a constant or a bitstream.
-ghost use Rattle.std.specs.Prelude.{◌≡◌, ◌*◌, ◌<◌, ◌≤◌, ◌↔◌, ◌++◌, All, IfOk, OnOk, OnErr, IfSome, IsNone, MatchBool, MatchOption, length, replicate, take};
-ghost use Rattle.bitstream.specs.Bits.{bits_of_bytes, bits_of_places, ones_of, HasNoOne, IsFirstOne, IsWithin, HasOneAlone};
+ghost use Rattle.std.specs.Prelude.{◌≡◌, ◌*◌, ◌<◌, ◌≤◌, ◌↔◌, ◌++◌, All, IfOk, OnOk, OnErr, IfSome, IsNone, MatchBool};
+ghost use Rattle.std.specs.Prelude.{MatchOption, length, replicate, take};
+ghost use Rattle.bitstream.specs.Bits.{bits_of_bytes, bits_of_places, ones_of, HasNoOne, IsFirstOne, IsWithin};
+ghost use Rattle.bitstream.specs.Bits.{HasOneAlone};
 ghost use Rattle.implicit_tiling.specs.Bits.{bit_at};
 ghost use Rattle.bitstream.specs.Bytes.{bytes_of_bits};
 ghost use Rattle.bitstream.specs.Words.{IsWordFrom};
@@ -136,7 +138,8 @@ impl Bits {
     pub fn is_within(&self, other: &Bits, n: u64) -> bool
         requires own { n ≤ length self.now }
         requires others { n ≤ length other.now }
-        ensures { MatchBool result (IsWithin (bit_at self.now) (bit_at other.now) n) (HasOneAlone (bit_at self.now) (bit_at other.now) n) }
+        ensures { MatchBool result (IsWithin (bit_at self.now) (bit_at other.now) n) (HasOneAlone (bit_at self.now)
+            (bit_at other.now) n) }
     {
         match (&self.kind, &other.kind) {
             (Kind::Constant { bit, .. }, _) => !*bit || other.ones(n) == n,

@@ -9,7 +9,8 @@ use crate::words::{first_word, word_of};
 pub(crate) fn has_all_of(other: &[u8], bytes: &[u8], n: u64) -> bool
     requires own { n ≤ 8 * length bytes.now }
     requires others { n ≤ 8 * length other.now }
-    ensures { MatchBool result (IsWithin (bit_of_bytes bytes.now) (bit_of_bytes other.now) n) (HasOneAlone (bit_of_bytes bytes.now) (bit_of_bytes other.now) n) }
+    ensures { MatchBool result (IsWithin (bit_of_bytes bytes.now) (bit_of_bytes other.now) n)
+        (HasOneAlone (bit_of_bytes bytes.now) (bit_of_bytes other.now) n) }
 {
     let whole = (n / 64) as usize;
     let words = &bytes.as_chunks::<8>().0[..whole];

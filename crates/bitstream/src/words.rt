@@ -62,7 +62,8 @@ pub(crate) fn ones_in(bytes: &[u8], n: u64) -> u64
 pub(crate) fn first_one_in(bytes: &[u8], from: u64, to: u64) -> Option<u64>
     requires order { from ≤ to }
     requires within { to ≤ 8 * length bytes.now }
-    ensures { MatchOption result (HasNoOne (bit_of_bytes bytes.now) from to) (IsFirstOne (bit_of_bytes bytes.now) from to) }
+    ensures { MatchOption result (HasNoOne (bit_of_bytes bytes.now) from to)
+        (IsFirstOne (bit_of_bytes bytes.now) from to) }
 {
     match first_one_from(&bytes[..to.div_ceil(8) as usize], from) {
         Some(place) if place < to => Some(place),
@@ -74,7 +75,8 @@ pub(crate) fn first_one_in(bytes: &[u8], from: u64, to: u64) -> Option<u64>
 fn first_one_from(bytes: &[u8], from: u64) -> Option<u64>
     requires within { from ≤ 8 * length bytes.now }
     requires few { 8 * length bytes.now ≤ 2 ^ 64 }
-    ensures { MatchOption result (HasNoOne (bit_of_bytes bytes.now) from (8 * length bytes.now)) (IsFirstOne (bit_of_bytes bytes.now) from (8 * length bytes.now)) }
+    ensures { MatchOption result (HasNoOne (bit_of_bytes bytes.now) from (8 * length bytes.now))
+        (IsFirstOne (bit_of_bytes bytes.now) from (8 * length bytes.now)) }
 {
     let start = (from / 8) as usize;
     let word = first_word(&bytes[start..]) >> (from % 8);
@@ -92,7 +94,8 @@ fn first_one_from(bytes: &[u8], from: u64) -> Option<u64>
 // The least place of a 1.
 fn first_one(bytes: &[u8]) -> Option<u64>
     requires { 8 * length bytes.now ≤ 2 ^ 64 }
-    ensures { MatchOption result (HasNoOne (bit_of_bytes bytes.now) 0 (8 * length bytes.now)) (IsFirstOne (bit_of_bytes bytes.now) 0 (8 * length bytes.now)) }
+    ensures { MatchOption result (HasNoOne (bit_of_bytes bytes.now) 0 (8 * length bytes.now))
+        (IsFirstOne (bit_of_bytes bytes.now) 0 (8 * length bytes.now)) }
 {
     let skipped = zeros_in_front(bytes);
     let place = first_one_by_words(&bytes[skipped..])?;
@@ -123,7 +126,8 @@ fn is_zero(block: [u8; 32]) -> bool
 // The least place of a 1, where it is near.
 fn first_one_by_words(bytes: &[u8]) -> Option<u64>
     requires { 8 * length bytes.now ≤ 2 ^ 64 }
-    ensures { MatchOption result (HasNoOne (bit_of_bytes bytes.now) 0 (8 * length bytes.now)) (IsFirstOne (bit_of_bytes bytes.now) 0 (8 * length bytes.now)) }
+    ensures { MatchOption result (HasNoOne (bit_of_bytes bytes.now) 0 (8 * length bytes.now))
+        (IsFirstOne (bit_of_bytes bytes.now) 0 (8 * length bytes.now)) }
 {
     let (words, rest) = bytes.as_chunks::<8>();
     for (index, word) in words.iter().enumerate() {

@@ -13,10 +13,11 @@ use Rattle.tile_occupancy.specs.Occupied.{tiles_of, IsOccupancy}
 use Rattle.tileset_json.specs.Limits.{IsWithinLimits}
 use Rattle.build_laws.specs.Made.{tile_in, made_subtree, made_roots}
 
--- the tiles of the words are available, and no others; each has the contents of its word; and no file that is reached has
--- a fault
+-- the tiles of the words are available, and no others; each has the contents of its word; and no file that is reached
+-- has a fault
 pub record HoldsTiles (s : Scene) (words : List ℕ) : Type 0 where
-  pub tiles : (t : Tile) → IsTile s.layout.scheme t → (is_available s t ≡ true) ↔ Contains (tiles_of s.layout.scheme words) t
+  pub tiles : (t : Tile) → IsTile s.layout.scheme t → (is_available s t ≡ true)
+      ↔ Contains (tiles_of s.layout.scheme words) t
   pub masks : All (λ w. mask s (tile_in s.layout w) ≡ word_mask w) words
   pub no_faults : (r : Tile) → IsTile s.layout.scheme r → is_reached s r ≡ true → fault_of (s.outcome r) ≡ None
 
@@ -28,4 +29,6 @@ pub record AreWordsOf (layout : Layout) (words : List ℕ) : Type 0 where
 
 -- the file of each root that has one stands under its name
 abbrev pub HaveMadeFiles : Layout → List ℕ → Files → Type 0
-HaveMadeFiles layout words files = All (λ r. file (subtree_name layout r) files ≡ Some (canonical (made_subtree layout words r))) (made_roots layout words)
+HaveMadeFiles layout words files = All
+    (λ r. file (subtree_name layout r) files ≡ Some (canonical (made_subtree layout words r)))
+    (made_roots layout words)

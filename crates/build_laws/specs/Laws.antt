@@ -21,11 +21,13 @@ pub record IsMadeWell (layout : Layout) (words : List ℕ) (r : Tile) : Type 0 w
   pub rules : KeepsRules (made_subtree layout words r)
 
 abbrev pub MadeSubtreesAreGood : Type 0
-MadeSubtreesAreGood = (layout : Layout) (words : List ℕ) → AreWordsOf layout words → All (IsMadeWell layout words) (made_roots layout words)
+MadeSubtreesAreGood = (layout : Layout) (words : List ℕ) → AreWordsOf layout words
+    → All (IsMadeWell layout words) (made_roots layout words)
 
 -- files among which those stand that were made of some tiles hold these tiles
 abbrev pub MadeFilesHoldTheTiles : Type 0
-MadeFilesHoldTheTiles = (layout : Layout) (words : List ℕ) (files : Files) → AreWordsOf layout words → HaveMadeFiles layout words files
+MadeFilesHoldTheTiles = (layout : Layout) (words : List ℕ) (files : Files) → AreWordsOf layout words
+    → HaveMadeFiles layout words files
     → HoldsTiles (scene_of files layout) words
 
 -- the answer for the region of all tiles is these tiles, as far as an answer goes
@@ -34,6 +36,11 @@ end_after true = too_many
 end_after false = complete
 
 abbrev pub AllTilesAreTheAnswer : Type 0
-AllTilesAreTheAnswer = (s : Scene) (words : List ℕ) → IsOccupancy s.layout.scheme s.layout.levels words → HoldsTiles s words
+AllTilesAreTheAnswer = (s : Scene) (words : List ℕ) → IsOccupancy s.layout.scheme s.layout.levels words
+    → HoldsTiles s words
     → answer s (whole s.layout.scheme s.layout.levels)
-    ≡ record { tiles = take most_tiles (tiles_of s.layout.scheme words); end = end_after (nat_lt most_tiles (length words)) }
+    ≡ record {
+      tiles = take most_tiles (tiles_of s.layout.scheme words);
+      end = end_after
+          (nat_lt most_tiles (length words));
+    }

@@ -1,6 +1,6 @@
 -- The subtree files that are made of given tiles: which roots have one, and the bits that stand in it (OGC 22-025r4,
--- implicit tiling: subtrees, tile availability, content availability, child subtree availability; which roots have a file
--- is this project's own).
+-- implicit tiling: subtrees, tile availability, content availability, child subtree availability; which roots have a
+-- file is this project's own).
 use Rattle.std.specs.Prelude.{ℕ, ◌%◌, ◌/◌, ◌^◌, ◌&&◌, ◌==◌, nat_lt, Bool, List, [], ◌∷◌, length, map, filter}
 use Rattle.std.specs.List.{range_with_len}
 use Rattle.bitstream.specs.Bits.{bits_of_places}
@@ -27,7 +27,8 @@ under layout r words = filter (is_under layout r) words
 
 -- the words of the tiles with which a subtree right below that of a root begins
 abbrev pub is_child_root : Layout → Tile → ℕ → Bool
-is_child_root layout r w = let t = tile_in layout w in nat_lt 0 t.level && is_subtree_root layout t && is_same (subtree_root layout (parent t)) r
+is_child_root layout r w = let t = tile_in layout w in nat_lt 0 t.level && is_subtree_root layout t
+    && is_same (subtree_root layout (parent t)) r
 
 abbrev pub child_roots : Layout → Tile → List ℕ → List ℕ
 child_roots layout r words = filter (is_child_root layout r) words
@@ -38,13 +39,15 @@ has_content c w = word_mask w / 2 ^ c % 2 == 1
 
 -- a bit for each node of a subtree, and for each child subtree
 abbrev pub node_bits : Layout → List ℕ → List Bool
-node_bits layout words = bits_of_places (node_count layout.scheme layout.subtree_levels) (map (λ w. place layout (tile_in layout w)) words)
+node_bits layout words = bits_of_places (node_count layout.scheme layout.subtree_levels) (map
+    (λ w. place layout (tile_in layout w)) words)
 
 abbrev pub child_place : Layout → ℕ → ℕ
 child_place layout w = index layout.scheme (tile_in layout w) % branching layout.scheme ^ layout.subtree_levels
 
 abbrev pub child_bits : Layout → List ℕ → List Bool
-child_bits layout words = bits_of_places (child_count layout.scheme layout.subtree_levels) (map (child_place layout) words)
+child_bits layout words = bits_of_places (child_count layout.scheme layout.subtree_levels)
+    (map (child_place layout) words)
 
 -- the subtree of a root: the tiles in it, their contents, and the subtrees right below it
 abbrev pub made_subtree : Layout → List ℕ → Tile → Subtree
@@ -54,7 +57,8 @@ made_subtree layout words r = record {
   cut = layout.levels;
   root = r;
   tiles = node_bits layout (under layout r words);
-  contents = map (λ c. node_bits layout (filter (has_content c) (under layout r words))) (range_with_len 0 (length layout.contents));
+  contents = map (λ c. node_bits layout (filter (has_content c) (under layout r words)))
+      (range_with_len 0 (length layout.contents));
   child = child_bits layout (child_roots layout r words);
 }
 
@@ -65,4 +69,5 @@ made_roots layout (w ∷ words) = filter (is_subtree_root layout) (tiles_of layo
 
 -- their files, by name
 abbrev pub made_files : Layout → List ℕ → Files
-made_files layout words = map (λ r. (subtree_name layout r, canonical (made_subtree layout words r))) (made_roots layout words)
+made_files layout words = map (λ r. (subtree_name layout r, canonical (made_subtree layout words r)))
+    (made_roots layout words)

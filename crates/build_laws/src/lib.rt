@@ -1,5 +1,5 @@
-//! What follows for files that are made of given tiles: the files hold these tiles and no others, each with its contents.
-//! Each law is the contract of a function that does nothing, and a lemma of `proofs/` to cite.
+//! What follows for files that are made of given tiles: the files hold these tiles and no others, each with its
+//! contents. Each law is the contract of a function that does nothing, and a lemma of `proofs/` to cite.
 #![tactic(auto)]
 
 ghost use Rattle.build_laws.specs.Laws.{MadeSubtreesAreGood, MadeFilesHoldTheTiles, AllTilesAreTheAnswer};
@@ -9,8 +9,8 @@ pub fn made_subtrees_are_good()
     ensures { MadeSubtreesAreGood }
 {}
 
-/// Where the files stand that are made of some tiles, these tiles are available and no others, each with its contents, and
-/// no file that is reached has a fault.
+/// Where the files stand that are made of some tiles, these tiles are available and no others, each with its
+/// contents, and no file that is reached has a fault.
 pub fn made_files_hold_the_tiles()
     ensures { MadeFilesHoldTheTiles }
 {}

@@ -1,5 +1,6 @@
 -- Frames as contracts see them: this project's own.
-use Rattle.std.specs.Prelude.{◌≡◌, ℕ, ◌<◌, ◌≤◌, Bool, true, false, List, length, replicate, position, find, reverse, slice_get, Option, Some, None}
+use Rattle.std.specs.Prelude.{◌≡◌, ℕ, ◌<◌, ◌≤◌, Bool, true, false, List, length, replicate, position, find, reverse}
+use Rattle.std.specs.Prelude.{slice_get, Option, Some, None}
 use Rattle.std.specs.List.{range_with_len}
 use Rattle.std.specs.List.Sorted.{IsPermutation}
 use Rattle.frame_pool.specs.declared.frame.FrameState.{FrameState}
@@ -48,7 +49,8 @@ IsPinnedAt {K} census f = (key : K) × (pins : ℕ) × (slice_get census f ≡ S
 
 -- no two frames have one key
 abbrev pub HasKeysOnce : {K : Type 0} → (K → K → Bool) → List (FrameState K) → Type 0
-HasKeysOnce {K} eq census = (key : K) (f g : ℕ) (one other : FrameState K) → slice_get census f ≡ Some one → slice_get census g ≡ Some other → has_key eq key one ≡ true → has_key eq key other ≡ true → f ≡ g
+HasKeysOnce {K} eq census = (key : K) (f g : ℕ) (one other : FrameState K) → slice_get census f ≡ Some one
+    → slice_get census g ≡ Some other → has_key eq key one ≡ true → has_key eq key other ≡ true → f ≡ g
 
 -- each frame that is ready has a value
 abbrev pub HasValues : {K V : Type 0} → List (FrameState K) → List (Option V) → Type 0
@@ -59,7 +61,8 @@ abbrev pub most_frames : ℕ
 most_frames = 1024
 
 -- what holds of every pool
-pub record IsPool {K V : Type 0} (eq : K → K → Bool) (census : List (FrameState K)) (values : List (Option V)) (order : List ℕ) : Type 0 where
+pub record IsPool {K V : Type 0} (eq : K → K → Bool) (census : List (FrameState K)) (values : List (Option V))
+    (order : List ℕ) : Type 0 where
   pub some : 1 ≤ length census
   pub most : length census ≤ most_frames
   pub places : length values ≡ length census
@@ -74,4 +77,5 @@ empty_frames n = record { census = replicate n Empty; values = replicate n None;
 -- a frame that is pinned has the same key and the same value in both
 abbrev pub KeepsPinned : {K V : Type 0} → Frames K V → Frames K V → Type 0
 KeepsPinned {K} old new = (f : ℕ) (state : FrameState K) → slice_get old.census f ≡ Some state → is_pinned state ≡ true
-    → (later : FrameState K) × (slice_get new.census f ≡ Some later) × (is_pinned later ≡ true) × (state_key later ≡ state_key state) × (slice_get new.values f ≡ slice_get old.values f)
+    → (later : FrameState K) × (slice_get new.census f ≡ Some later) × (is_pinned later ≡ true)
+    × (state_key later ≡ state_key state) × (slice_get new.values f ≡ slice_get old.values f)

@@ -1,7 +1,7 @@
 //! Which frame each key was last given, noted in a map, so that a key is found without a look at each frame.
 //!
-//! A note may be stale: the census says whether the frame still has the key. Stale notes stay until there is no more room
-//! in the map, which is then filled anew, since the removal of a single note need not leave room for another.
+//! A note may be stale: the census says whether the frame still has the key. Stale notes stay until there is no more
+//! room in the map, which is then filled anew, since the removal of a single note need not leave room for another.
 ghost use Rattle.std.specs.Prelude.{◌≡◌, ℕ, ◌+◌, ◌<◌, ◌≤◌, cond, length, position, slice_set, Some};
 ghost use Rattle.std.specs.HashMap.{get, spare, hash_map_len};
 ghost use Rattle.frame_pool.specs.Frames.{most_frames};
@@ -69,7 +69,8 @@ fn make_room<K: Copy + Eq + Hash>(census: &[FrameState<K>], notes: &mut HashMap<
 // Notes the frame of the key, in place of the one that was noted.
 fn put<K: Copy + Eq + Hash>(notes: &mut HashMap<K, u32>, key: K, frame: u32)
     requires { 0 < spare notes.old }
-    ensures noted { (other : K) → get K.eq notes.new other ≡ cond (K.eq key other) (Some frame) (get K.eq notes.old other) }
+    ensures noted { (other : K)
+        → get K.eq notes.new other ≡ cond (K.eq key other) (Some frame) (get K.eq notes.old other) }
     ensures used { spare notes.old ≤ spare notes.new + 1 }
     ensures room { hash_map_len notes.old + spare notes.old ≤ hash_map_len notes.new + spare notes.new }
 {

@@ -4,8 +4,10 @@ ghost use Rattle.std.specs.List.{range_with_len};
 ghost use Rattle.std.specs.List.Sorted.{IsPermutation};
 ghost use Rattle.std.specs.Map.Iter.{GivesInOrder, GivesInReverse};
 ghost use Rattle.frame_pool.specs.States.{pins_of};
-ghost use Rattle.frame_pool.specs.Frames.{most_frames, EachFrame, IsLoadingAt, IsReadyAt, IsPinnedAt, HasKeysOnce, KeepsPinned, empty_frames};
-ghost use Rattle.frame_pool.specs.Moves.{IsAskAnswer, MayGoOn, after_ask, after_settle, after_unpin, settled as settled_of};
+ghost use Rattle.frame_pool.specs.Frames.{most_frames, EachFrame, IsLoadingAt, IsReadyAt, IsPinnedAt, HasKeysOnce};
+ghost use Rattle.frame_pool.specs.Frames.{KeepsPinned, empty_frames};
+ghost use Rattle.frame_pool.specs.Moves.{IsAskAnswer, MayGoOn, after_ask, after_settle, after_unpin};
+ghost use Rattle.frame_pool.specs.Moves.{settled as settled_of};
 ghost use Rattle.frame_pool.specs.declared.frame.FrameState.TheVariants.{Empty as empty, Loading as loading};
 ghost use Rattle.frame_pool.specs.declared.frame.Asked.{Asked as asked};
 

@@ -1,6 +1,7 @@
 -- The members of a subtree's JSON that are read (OGC 22-025r4, subtree JSON format: buffers, buffer views,
 -- availability objects).
-use Rattle.std.specs.Prelude.{ℕ, ◌==◌, Bool, true, false, List, [], codes, Option, Some, None, option_and_then, option_map, Result, Ok, if◌then◌else◌}
+use Rattle.std.specs.Prelude.{ℕ, ◌==◌, Bool, true, false, List, [], codes, Option, Some, None, option_and_then}
+use Rattle.std.specs.Prelude.{option_map, Result, Ok, if◌then◌else◌}
 use Rattle.serde_json.specs.Data.{Data}
 use Rattle.serde_json.specs.Find.{get, as_array, as_number, as_u64, as_str}
 use Rattle.implicit_tiling.specs.Checks.{need}
@@ -53,7 +54,9 @@ buffer_of value = option_and_then (λ size. option_map (λ external. record { le
     (external_from (get (codes "uri") value))) (number_at (codes "byteLength") value)
 
 abbrev pub view_of : Data → Option BufferView
-view_of value = option_and_then (λ buffer. option_and_then (λ offset. option_map (λ size. record { buffer = buffer; offset = offset; length = size })
+view_of value = option_and_then
+    (λ buffer. option_and_then
+    (λ offset. option_map (λ size. record { buffer = buffer; offset = offset; length = size })
     (number_at (codes "byteLength") value)) (number_at (codes "byteOffset") value)) (number_at (codes "buffer") value)
 
 -- 0 or 1
@@ -76,7 +79,8 @@ availability_from None (Some view) count = stream_from view count
 availability_from None None count = None
 
 abbrev pub availability_of : Data → Option Availability
-availability_of value = availability_from (get (codes "constant") value) (get (codes "bitstream") value) (get (codes "availableCount") value)
+availability_of value = availability_from (get (codes "constant") value) (get (codes "bitstream") value)
+    (get (codes "availableCount") value)
 
 abbrev pub availability_at : List ℕ → Data → Option Availability
 availability_at name value = option_and_then availability_of (get name value)
@@ -88,8 +92,8 @@ content_from None = malformed
 abbrev pub content_of : Data → Option ContentPart
 content_of value = Some (content_from (availability_of value))
 
--- The record that a JSON value states, or the first of the faults 8 to 11: 8 it is no object, 9 a buffer is faulty, 10 a
--- buffer view is, 11 the availability of tiles or of child subtrees is, or that of contents is no list.
+-- The record that a JSON value states, or the first of the faults 8 to 11: 8 it is no object, 9 a buffer is faulty,
+-- 10 a buffer view is, 11 the availability of tiles or of child subtrees is, or that of contents is no list.
 abbrev pub record_of_value : Data → Result SubtreeRecord ℕ
 record_of_value any =
     need 8 (object_of any) (λ value.

@@ -14,8 +14,13 @@ abbrev pub subtree_name : Layout → Tile → List ℕ
 subtree_name layout r = filled layout.scheme layout.subtree r
 
 abbrev pub scene_of : Files → Layout → Scene
-scene_of files layout = record { layout = layout; outcome = λ r. outcome_in layout r (file (subtree_name layout r) files) }
+scene_of files layout = record {
+  layout = layout;
+  outcome = λ r. outcome_in layout r
+      (file (subtree_name layout r) files);
+}
 
 -- the layout of the files, or the first fault of `tileset.json`: 1 there is none, 2 it is too long, or one of 3 to 12
 abbrev pub layout_in : Files → Result Layout ℕ
-layout_in files = need 1 (file (codes "tileset.json") files) (λ bytes. refuse 2 (nat_lt most_file_bytes (length bytes)) (layout_of bytes))
+layout_in files = need 1 (file (codes "tileset.json") files)
+    (λ bytes. refuse 2 (nat_lt most_file_bytes (length bytes)) (layout_of bytes))

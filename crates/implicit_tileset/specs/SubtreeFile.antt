@@ -1,6 +1,8 @@
 -- What the bytes of a subtree file hold: the bits that it names, or its first fault (OGC 22-025r4, subtree binary
 -- format, availability; the numbers and the order of the faults are this project's own).
-use Rattle.std.specs.Prelude.{ℕ, ◌+◌, ◌*◌, ◌||◌, ◌==◌, nat_lt, not, Bool, true, false, List, [], ◌∷◌, ◌++◌, length, map, take, drop, count_by, codes, Option, Some, None, option_map, Result, Ok, Err, if◌then◌else◌}
+use Rattle.std.specs.Prelude.{ℕ, ◌+◌, ◌*◌, ◌||◌, ◌==◌, nat_lt, not, Bool, true, false, List, [], ◌∷◌, ◌++◌, length}
+use Rattle.std.specs.Prelude.{map, take, drop, count_by, codes, Option, Some, None, option_map, Result, Ok, Err}
+use Rattle.std.specs.Prelude.{if◌then◌else◌}
 use Rattle.std.specs.Str.{bytes_eq}
 use Rattle.std.specs.List.{slice_range, list_any, range_with_len, slice_get}
 use Rattle.std.specs.Int.{w32, w64, from_le_bytes}
@@ -10,7 +12,8 @@ use Rattle.implicit_tiling.specs.Checks.{need, refuse}
 use Rattle.implicit_tiling.specs.Tile.{Tile}
 use Rattle.implicit_tiling.specs.Scene.{Layout, Outcome, good, bad}
 use Rattle.implicit_tiling.specs.Subtree.{Subtree, node_count, child_count, has_orphan, has_content_alone, bits_of}
-use Rattle.implicit_tileset.specs.Record.{Buffer, BufferView, Availability, constant, stream, ContentPart, well_formed, malformed, SubtreeRecord, record_of}
+use Rattle.implicit_tileset.specs.Record.{Buffer, BufferView, Availability, constant, stream, ContentPart}
+use Rattle.implicit_tileset.specs.Record.{well_formed, malformed, SubtreeRecord, record_of}
 
 -- the numbers of the header, which are little endian: 24 bytes stand before the two parts
 abbrev pub header_bytes : ℕ
@@ -31,7 +34,11 @@ pub record Parts : Type 0 where
   pub binary : List ℕ
 
 abbrev pub parts_at : List ℕ → ℕ → ℕ → Parts
-parts_at bytes json binary = record { json = slice_range bytes header_bytes (header_bytes + json); binary = slice_range bytes (header_bytes + json) (header_bytes + json + binary) }
+parts_at bytes json binary = record {
+  json = slice_range bytes header_bytes
+      (header_bytes + json);
+  binary = slice_range bytes (header_bytes + json) (header_bytes + json + binary);
+}
 
 -- The parts of a file, or the first of the faults 3 to 6: 3 it is shorter than a header, 4 it begins otherwise, 5 its
 -- version isn't 1, 6 it ends before its parts do.
@@ -77,7 +84,8 @@ is_none (Some a) = false
 -- 12: the view that it names isn't there, or that view's buffer isn't
 abbrev pub names_no_view : Held → Availability → Bool
 names_no_view h (constant b) = false
-names_no_view h (stream view count) = is_none (slice_get h.parts.views view) || view_is (λ v. is_none (buffer_named h v)) (slice_get h.parts.views view)
+names_no_view h (stream view count) = is_none (slice_get h.parts.views view) || view_is
+    (λ v. is_none (buffer_named h v)) (slice_get h.parts.views view)
 
 -- 13: the buffer is external
 abbrev pub is_external : Held → Availability → Bool
@@ -85,7 +93,8 @@ is_external h a = view_is (λ v. buffer_is (λ b. b.external) (buffer_named h v)
 
 -- 14: the view ends past its buffer, or the buffer past the binary part
 abbrev pub is_out : Held → Availability → Bool
-is_out h a = view_is (λ v. buffer_is (λ b. nat_lt b.length (v.offset + v.length) || nat_lt (length h.binary) b.length) (buffer_named h v)) (view_named h a)
+is_out h a = view_is (λ v. buffer_is (λ b. nat_lt b.length (v.offset + v.length) || nat_lt (length h.binary) b.length)
+    (buffer_named h v)) (view_named h a)
 
 -- 15: the view has fewer bits than are needed
 abbrev pub is_short : Held → Used → Bool
@@ -133,7 +142,8 @@ for_children layout a = record { availability = a; needed = child_count layout.s
 
 -- all that are used: of tiles, of contents and of child subtrees
 abbrev pub used_of : Layout → SubtreeRecord → List Availability → List Used
-used_of layout r contents = for_nodes layout r.tiles ∷ (map (for_nodes layout) contents ++ for_children layout r.child ∷ [])
+used_of layout r contents = for_nodes layout r.tiles ∷ (map (for_nodes layout) contents
+    ++ for_children layout r.child ∷ [])
 
 -- the subtree of these bits
 abbrev pub subtree_from : Layout → Tile → Held → List Availability → Subtree
@@ -163,7 +173,9 @@ subtree_held layout root h contents used =
 
 abbrev pub subtree_recorded : Layout → Tile → List ℕ → SubtreeRecord → Result Subtree ℕ
 subtree_recorded layout root binary r =
-    need 11 (wanted_contents layout r) (λ contents. subtree_held layout root (record { parts = r; binary = binary }) contents (used_of layout r contents))
+    need 11 (wanted_contents layout r)
+    (λ contents. subtree_held layout root (record { parts = r; binary = binary }) contents
+    (used_of layout r contents))
 
 -- what follows where a part could be read
 abbrev pub and_then : {A B : Type 0} → Result A ℕ → (A → Result B ℕ) → Result B ℕ
@@ -172,7 +184,8 @@ and_then (Err n) rest = Err n
 
 -- the subtree of a root that the bytes of its file hold, or the number of their first fault of 3 to 18
 abbrev pub subtree_of : Layout → Tile → List ℕ → Result Subtree ℕ
-subtree_of layout root bytes = and_then (parts_of bytes) (λ parts. and_then (record_of parts.json) (subtree_recorded layout root parts.binary))
+subtree_of layout root bytes = and_then (parts_of bytes)
+    (λ parts. and_then (record_of parts.json) (subtree_recorded layout root parts.binary))
 
 -- what the file of a root holds: 1 there is none, 2 it is too long
 abbrev pub outcome_from : Result Subtree ℕ → Outcome
@@ -181,4 +194,5 @@ outcome_from (Err n) = bad n
 
 abbrev pub outcome_in : Layout → Tile → Option (List ℕ) → Outcome
 outcome_in layout root None = bad 1
-outcome_in layout root (Some bytes) = if nat_lt most_file_bytes (length bytes) then bad 2 else outcome_from (subtree_of layout root bytes)
+outcome_in layout root (Some bytes) = if nat_lt most_file_bytes (length bytes) then bad 2 else outcome_from
+    (subtree_of layout root bytes)

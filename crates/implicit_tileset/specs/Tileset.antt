@@ -1,6 +1,7 @@
--- The layout that the bytes of `tileset.json` state, or the number of their first fault of 3 to 12 (OGC 22-025r4, implicit
--- tiling: implicit root tile, template URIs; the numbers and the order of the faults are this project's own).
-use Rattle.std.specs.Prelude.{ℕ, ◌&&◌, nat_lt, nat_le, List, [], ◌∷◌, length, codes, Option, Some, None, option_and_then, option_map, Result, Ok, if◌then◌else◌}
+-- The layout that the bytes of `tileset.json` state, or the number of their first fault of 3 to 12 (OGC 22-025r4,
+-- implicit tiling: implicit root tile, template URIs; the numbers and the order of the faults are this project's own).
+use Rattle.std.specs.Prelude.{ℕ, ◌&&◌, nat_lt, nat_le, List, [], ◌∷◌, length, codes, Option, Some, None}
+use Rattle.std.specs.Prelude.{option_and_then, option_map, Result, Ok, if◌then◌else◌}
 use Rattle.std.specs.Str.{bytes_eq}
 use Rattle.serde_json.specs.Data.{Data}
 use Rattle.serde_json.specs.Find.{get, as_array}
@@ -14,7 +15,8 @@ use Rattle.implicit_tiling.specs.Scene.{Layout}
 use Rattle.implicit_tileset.specs.Json.{json_of, object_at, number_at, text_at, has_member, list_of, each_read}
 
 abbrev pub scheme_named : List ℕ → Option Scheme
-scheme_named text = if bytes_eq text (codes "QUADTREE") then Some Quad else (if bytes_eq text (codes "OCTREE") then Some Oct else None)
+scheme_named text = if bytes_eq text (codes "QUADTREE") then Some Quad else
+    (if bytes_eq text (codes "OCTREE") then Some Oct else None)
 
 -- a whole number from 1 to this
 abbrev pub from_one_to : ℕ → Option ℕ → Option ℕ
@@ -48,7 +50,14 @@ layout_of_value value =
     refuse 10 (has_member (codes "content") tile && has_member (codes "contents") tile)
     (need 11 (contents_of tile) (λ contents.
     refuse 12 (nat_lt most_contents (length contents))
-    (Ok (record { scheme = scheme; subtree_levels = subtree_levels; levels = levels; subtree = subtree; contents = contents }))))))))))
+    (Ok (record {
+      scheme = scheme;
+      subtree_levels = subtree_levels;
+      levels = levels;
+      subtree = subtree;
+      contents =
+          contents;
+    }))))))))))
 
 abbrev pub layout_of : List ℕ → Result Layout ℕ
 layout_of bytes = need 3 (json_of bytes) layout_of_value

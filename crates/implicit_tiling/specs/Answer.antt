@@ -1,6 +1,7 @@
 -- The answer for a region: the available tiles of its box in key order, up to the first fault on the walk and to the
 -- greatest number of tiles (this project's own).
-use Rattle.std.specs.Prelude.{ℕ, ◌&&◌, nat_lt, Bool, true, false, List, [], ◌∷◌, length, take, filter, Option, Some, None, option_map}
+use Rattle.std.specs.Prelude.{ℕ, ◌&&◌, nat_lt, Bool, true, false, List, [], ◌∷◌, length, take, filter, Option, Some}
+use Rattle.std.specs.Prelude.{None, option_map}
 use Rattle.std.specs.List.{filter_map}
 use Rattle.implicit_tiling.specs.declared.Scheme.{Scheme}
 use Rattle.implicit_tiling.specs.Tile.{Tile, is_key_below, all_tiles}
@@ -22,7 +23,8 @@ first (x ∷ xs) = Some x
 
 -- the root of least key on the walk whose file has a fault, with the fault's number
 abbrev pub first_fault : Scene → Region → Option (Tile × ℕ)
-first_fault s region = first (filter_map (fault_at s) (filter (is_on_walk s region) (all_tiles s.layout.scheme region.level)))
+first_fault s region = first
+    (filter_map (fault_at s) (filter (is_on_walk s region) (all_tiles s.layout.scheme region.level)))
 
 -- the tile's key is below that of the first fault, where there is one
 abbrev pub is_before : Scheme → Option (Tile × ℕ) → Tile → Bool
@@ -31,7 +33,9 @@ is_before scheme (Some fault) t = is_key_below scheme t fault.0
 
 -- the tiles of a region, in key order
 abbrev pub tiles : Scene → Region → List Tile
-tiles s region = filter (λ t. is_in region t && is_available s t && is_before s.layout.scheme (first_fault s region) t) (all_tiles s.layout.scheme region.level)
+tiles s region = filter
+    (λ t. is_in region t && is_available s t && is_before s.layout.scheme (first_fault s region) t)
+    (all_tiles s.layout.scheme region.level)
 
 pub data End : Type 0 where
   complete : End
@@ -59,4 +63,8 @@ abbrev pub end_of : ℕ → Option (Tile × ℕ) → End
 end_of count found = end_from (nat_lt most_tiles count) found
 
 abbrev pub answer : Scene → Region → Answer
-answer s region = record { tiles = take most_tiles (tiles s region); end = end_of (length (tiles s region)) (first_fault s region) }
+answer s region = record {
+  tiles = take most_tiles (tiles s region);
+  end = end_of (length (tiles s region))
+      (first_fault s region);
+}

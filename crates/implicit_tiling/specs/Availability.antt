@@ -1,6 +1,7 @@
 -- Which tiles exist, and which contents stand on them (OGC 22-025r4, implicit tiling: availability, tile
 -- availability, content availability, child subtree availability).
-use Rattle.std.specs.Prelude.{ℕ, zero, suc, ◌≡◌, ◌<◌, ◌+◌, ◌-◌, ◌/◌, ◌%◌, ◌^◌, ◌&&◌, ◌||◌, ◌==◌, nat_lt, not, Bool, true, List, [], ◌∷◌, if◌then◌else◌}
+use Rattle.std.specs.Prelude.{ℕ, zero, suc, ◌≡◌, ◌<◌, ◌+◌, ◌-◌, ◌/◌, ◌%◌, ◌^◌, ◌&&◌, ◌||◌, ◌==◌, nat_lt, not, Bool}
+use Rattle.std.specs.Prelude.{true, List, [], ◌∷◌, if◌then◌else◌}
 use Rattle.implicit_tiling.specs.declared.Scheme.{Scheme}
 use Rattle.implicit_tiling.specs.Tile.{Tile, IsTile, branching, ancestor, parent, index}
 use Rattle.implicit_tiling.specs.Scene.{Layout, Scene, tile_bit_of, child_bit_of, content_bits_of}
@@ -27,7 +28,8 @@ nodes_above scheme l = (branching scheme ^ l - 1) / (branching scheme - 1)
 
 -- the place of a tile among its subtree's bits: the nodes above its local level, then its index within that level
 abbrev pub place : Layout → Tile → ℕ
-place layout t = let l = local_level layout t in nodes_above layout.scheme l + index layout.scheme t % branching layout.scheme ^ l
+place layout t = let l = local_level layout t in nodes_above layout.scheme l + index layout.scheme t % branching
+    layout.scheme ^ l
 
 -- the tile's own bit, where its subtree's file has no fault; a bit at a level from `levels` on counts as 0
 abbrev pub tile_bit : Scene → Tile → Bool
@@ -36,20 +38,23 @@ tile_bit s t = nat_lt t.level s.layout.levels && tile_bit_of (s.outcome (subtree
 -- the child bit of a subtree root below another one, in the subtree of its parent; likewise
 abbrev pub child_bit : Scene → Tile → Bool
 child_bit s r = nat_lt r.level s.layout.levels
-    && child_bit_of (s.outcome (subtree_root s.layout (parent r))) (index s.layout.scheme r % branching s.layout.scheme ^ s.layout.subtree_levels)
+    && child_bit_of (s.outcome (subtree_root s.layout (parent r)))
+    (index s.layout.scheme r % branching s.layout.scheme ^ s.layout.subtree_levels)
 
 -- A tile is available where its bit is 1, and it is the root tile or its parent is available; a subtree root below
 -- the root also needs its child bit. By the number of the tile's level.
 abbrev pub available_at : Scene → ℕ → Tile → Bool
 available_at s zero t = tile_bit s t
-available_at s (suc n) t = available_at s n (parent t) && (not (is_subtree_root s.layout t) || child_bit s t) && tile_bit s t
+available_at s (suc n) t = available_at s n (parent t) && (not (is_subtree_root s.layout t) || child_bit s t)
+    && tile_bit s t
 
 abbrev pub is_available : Scene → Tile → Bool
 is_available s t = available_at s t.level t
 
 -- a subtree root is reached where it is the root tile, or its parent is available and its child bit is 1
 abbrev pub is_reached : Scene → Tile → Bool
-is_reached s r = is_subtree_root s.layout r && nat_lt r.level s.layout.levels && (r.level == 0 || (is_available s (parent r) && child_bit s r))
+is_reached s r = is_subtree_root s.layout r && nat_lt r.level s.layout.levels
+    && (r.level == 0 || (is_available s (parent r) && child_bit s r))
 
 -- the contents of an available tile, one bit each: 2^c where there is a template c, an availability c, and its bit is 1
 abbrev pub content_bit : Scene → Tile → ℕ → (ℕ → Bool) → ℕ

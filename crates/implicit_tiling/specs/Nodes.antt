@@ -31,7 +31,8 @@ level_words s region l = map (node_word s l) (tiles_in s region l)
 
 -- the child roots in the region whose child bit is 1 and whose parent is there
 abbrev pub is_child_in : Subtree → Region → ℕ → Bool
-is_child_in s region m = has_child s m && has_tile s (s.levels - 1) (m / branching s.scheme) && is_in region (node_at s s.levels m)
+is_child_in s region m = has_child s m && has_tile s (s.levels - 1) (m / branching s.scheme)
+    && is_in region (node_at s s.levels m)
 
 abbrev pub children_in : Subtree → Region → List ℕ
 children_in s region = filter (is_child_in s region) (indices s s.levels)

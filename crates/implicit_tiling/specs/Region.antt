@@ -1,5 +1,6 @@
 -- A region: a level, and an inclusive box of coordinates at that level (this project's own).
-use Rattle.std.specs.Prelude.{ℕ, ◌-◌, ◌/◌, ◌^◌, ◌&&◌, ◌||◌, nat_lt, nat_le, Bool, List, [], ◌∷◌, slice_index, Result, Ok}
+use Rattle.std.specs.Prelude.{ℕ, ◌-◌, ◌/◌, ◌^◌, ◌&&◌, ◌||◌, nat_lt, nat_le, Bool, List, [], ◌∷◌, slice_index, Result}
+use Rattle.std.specs.Prelude.{Ok}
 use Rattle.implicit_tiling.specs.declared.Scheme.{Scheme}
 use Rattle.implicit_tiling.specs.Checks.{refuse}
 use Rattle.implicit_tiling.specs.Tile.{Tile}
@@ -30,7 +31,8 @@ is_within k lo hi c = nat_le (lo / 2 ^ k) c && nat_le c (hi / 2 ^ k)
 -- a tile of the region's level or above it is in the region where each of its coordinates is
 abbrev pub is_in : Region → Tile → Bool
 is_in region t = nat_le t.level region.level
-    && each_axis (λ axis. is_within (region.level - t.level) (slice_index region.lo axis) (slice_index region.hi axis) (coordinate t axis))
+    && each_axis (λ axis. is_within (region.level - t.level) (slice_index region.lo axis) (slice_index region.hi axis)
+    (coordinate t axis))
 
 -- The region of a level and a box, or the first reason against it: 1 the level isn't below `levels`,
 -- 2 a coordinate is above its partner, 3 a coordinate is 2^level or more.

@@ -1,5 +1,6 @@
 -- A request line, LEVEL LO HI, and the rules that refuse it (this project's own).
-use Rattle.std.specs.Prelude.{ℕ, ◌+◌, ◌^◌, ◌&&◌, ◌||◌, ◌==◌, nat_lt, not, Bool, List, [], ◌∷◌, length, Option, Some, None, option_and_then, option_map, Result, Ok, Err, if◌then◌else◌, slice_index}
+use Rattle.std.specs.Prelude.{ℕ, ◌+◌, ◌^◌, ◌&&◌, ◌||◌, ◌==◌, nat_lt, not, Bool, List, [], ◌∷◌, length, Option, Some}
+use Rattle.std.specs.Prelude.{None, option_and_then, option_map, Result, Ok, Err, if◌then◌else◌, slice_index}
 use Rattle.std.specs.List.{list_all, slice_split}
 use Rattle.std.specs.Char.{is_ascii_digit}
 use Rattle.std.specs.Str.Parse.{digits_value}
@@ -40,7 +41,9 @@ pub record Line : Type 0 where
 -- the line of three words
 abbrev pub line_of_words : List (List ℕ) → Option Line
 line_of_words (level ∷ lo ∷ hi ∷ []) =
-    option_and_then (λ l. option_and_then (λ a. option_map (λ b. record { level = l; lo = a; hi = b }) (coordinates_in hi)) (coordinates_in lo)) (number level)
+    option_and_then (λ l. option_and_then
+    (λ a. option_map (λ b. record { level = l; lo = a; hi = b }) (coordinates_in hi)) (coordinates_in lo))
+    (number level)
 line_of_words words = None
 
 -- a number, a list and a list, joined by single spaces

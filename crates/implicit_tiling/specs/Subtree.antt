@@ -1,6 +1,7 @@
 -- A decoded subtree: its root, and the bits that its file names for its nodes and child subtrees
 -- (OGC 22-025r4, implicit tiling: subtrees; availability bitstreams).
-use Rattle.std.specs.Prelude.{ℕ, ◌≡◌, ◌+◌, ◌-◌, ◌/◌, ◌%◌, ◌^◌, ◌<◌, ◌≤◌, ◌&&◌, nat_lt, not, Bool, List, [], ◌∷◌, length, map, if◌then◌else◌}
+use Rattle.std.specs.Prelude.{ℕ, ◌≡◌, ◌+◌, ◌-◌, ◌/◌, ◌%◌, ◌^◌, ◌<◌, ◌≤◌, ◌&&◌, nat_lt, not, Bool, List, [], ◌∷◌}
+use Rattle.std.specs.Prelude.{length, map, if◌then◌else◌}
 use Rattle.std.specs.List.{range_with_len, list_any, All}
 use Rattle.implicit_tiling.specs.declared.Scheme.{Scheme}
 use Rattle.implicit_tiling.specs.Limits.{most_levels, most_subtree_levels, most_contents}
@@ -45,17 +46,21 @@ contents_mask s l m = mask_of_bits 0 (map (λ bits. node_bit s bits l m) s.conte
 
 -- some node of `count` local levels from `first` on passes the test
 abbrev pub some_node : Scheme → ℕ → ℕ → (ℕ → ℕ → Bool) → Bool
-some_node scheme first count test = list_any (λ l. list_any (test l) (range_with_len 0 (branching scheme ^ l))) (range_with_len first count)
+some_node scheme first count test = list_any (λ l. list_any (test l) (range_with_len 0 (branching scheme ^ l)))
+    (range_with_len first count)
 
 -- a node below the local root has bit 1 and its parent bit 0
 abbrev pub has_orphan : Subtree → Bool
-has_orphan s = some_node s.scheme 1 (s.levels - 1) (λ l m. has_tile s l m && not (has_tile s (l - 1) (m / branching s.scheme)))
+has_orphan s = some_node s.scheme 1 (s.levels - 1)
+    (λ l m. has_tile s l m && not (has_tile s (l - 1) (m / branching s.scheme)))
 
 -- a node has a content with bit 1 and its tile bit 0
 abbrev pub has_content_alone : Subtree → Bool
-has_content_alone s = some_node s.scheme 0 s.levels (λ l m. list_any (λ bits. node_bit s bits l m) s.contents && not (has_tile s l m))
+has_content_alone s = some_node s.scheme 0 s.levels (λ l m. list_any (λ bits. node_bit s bits l m) s.contents
+    && not (has_tile s l m))
 
--- the numbers of bits: of tiles and of each content one for each node, of child subtrees N below each node of the last level
+-- the numbers of bits: of tiles and of each content one for each node, of child subtrees N below each node of the
+-- last level
 abbrev pub node_count : Scheme → ℕ → ℕ
 node_count scheme levels = nodes_above scheme levels
 
@@ -74,8 +79,8 @@ pub record IsSubtree (s : Subtree) : Type 0 where
   pub content_bits : All (λ bits. length bits ≡ node_count s.scheme s.levels) s.contents
   pub child_bits : length s.child ≡ child_count s.scheme s.levels
 
--- it is a subtree of the layout: its levels and scheme are the layout's, it has no more contents than templates, and its
--- root stands where subtrees begin
+-- it is a subtree of the layout: its levels and scheme are the layout's, it has no more contents than templates, and
+-- its root stands where subtrees begin
 pub record IsOf (layout : Layout) (s : Subtree) : Type 0 where
   pub same_scheme : s.scheme ≡ layout.scheme
   pub same_levels : s.levels ≡ layout.subtree_levels

@@ -1,6 +1,7 @@
 -- URI templates, and what stands for their variables (OGC 22-025r4, implicit tiling: template URIs). Text that is no
 -- variable is copied, `{z}` in a quadtree among it. The limits of a template are this project's own.
-use Rattle.std.specs.Prelude.{ℕ, zero, suc, ◌-◌, ◌&&◌, ◌==◌, nat_le, not, Bool, List, [], ◌∷◌, ◌++◌, length, Option, Some, None, codes, nat_eq, if◌then◌else◌}
+use Rattle.std.specs.Prelude.{ℕ, zero, suc, ◌-◌, ◌&&◌, ◌==◌, nat_le, not, Bool, List, [], ◌∷◌, ◌++◌, length, Option}
+use Rattle.std.specs.Prelude.{Some, None, codes, nat_eq, if◌then◌else◌}
 use Rattle.std.specs.List.{starts_with, list_all}
 use Rattle.std.specs.Fmt.{decimal}
 use Rattle.implicit_tiling.specs.declared.Scheme.{Scheme}
@@ -42,7 +43,8 @@ bytes_passed (Some v) = length v.0 - 1
 abbrev pub filled_past : List (List ℕ × ℕ) → ℕ → List ℕ → List ℕ
 filled_past vs n [] = []
 filled_past vs (suc n) (c ∷ text) = filled_past vs n text
-filled_past vs zero (c ∷ text) = let found = variable_at vs (c ∷ text) in written c found ++ filled_past vs (bytes_passed found) text
+filled_past vs zero (c ∷ text) = let found = variable_at vs (c ∷ text) in written c found
+    ++ filled_past vs (bytes_passed found) text
 
 abbrev pub filled : Scheme → List ℕ → Tile → List ℕ
 filled scheme template t = filled_past (variables scheme t) 0 template

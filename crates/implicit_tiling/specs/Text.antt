@@ -1,5 +1,6 @@
 -- The texts of answers, refusals and checks: lines with TAB between the parts and LF at the end (this project's own).
-use Rattle.std.specs.Prelude.{ℕ, ◌+◌, ◌%◌, ◌/◌, ◌^◌, ◌==◌, List, [], ◌∷◌, ◌++◌, length, codes, Bool, true, false, Result, Ok, Err, if◌then◌else◌}
+use Rattle.std.specs.Prelude.{ℕ, ◌+◌, ◌%◌, ◌/◌, ◌^◌, ◌==◌, List, [], ◌∷◌, ◌++◌, length, codes, Bool, true, false}
+use Rattle.std.specs.Prelude.{Result, Ok, Err, if◌then◌else◌}
 use Rattle.std.specs.List.{flat_map, join_with_byte}
 use Rattle.std.specs.Fmt.{decimal}
 use Rattle.implicit_tiling.specs.declared.Scheme.{Scheme}
@@ -26,7 +27,8 @@ coordinate_texts Oct t = decimal t.level ∷ decimal t.x ∷ decimal t.y ∷ dec
 abbrev pub content_texts : Scheme → Tile → ℕ → ℕ → List (List ℕ) → List (List ℕ)
 content_texts scheme t m c [] = []
 content_texts scheme t m c (template ∷ templates) =
-    if m / 2 ^ c % 2 == 1 then filled scheme template t ∷ content_texts scheme t m (c + 1) templates else content_texts scheme t m (c + 1) templates
+    if m / 2 ^ c % 2 == 1 then filled scheme template t ∷ content_texts scheme t m
+    (c + 1) templates else content_texts scheme t m (c + 1) templates
 
 -- the line of a tile with the contents of a mask
 abbrev pub tile_line : Layout → Tile → ℕ → List ℕ
@@ -38,7 +40,8 @@ end_line scheme n too_many = line (codes "end" ∷ codes "too-many" ∷ decimal 
 end_line scheme n (fault r k) = line (codes "end" ∷ codes "fault" ∷ decimal n ∷ decimal k ∷ coordinate_texts scheme r)
 
 abbrev pub answer_text : Scene → Answer → List ℕ
-answer_text s a = flat_map (λ t. tile_line s.layout t (mask s t)) a.tiles ++ end_line s.layout.scheme (length a.tiles) a.end
+answer_text s a = flat_map (λ t. tile_line s.layout t (mask s t)) a.tiles
+    ++ end_line s.layout.scheme (length a.tiles) a.end
 
 -- the same text by the words of the tiles
 abbrev pub word_line : Layout → ℕ → List ℕ
@@ -69,4 +72,5 @@ check_end_line true looked faults = line (codes "end" ∷ codes "too-many" ∷ d
 check_end_line false looked faults = line (codes "end" ∷ codes "checked" ∷ decimal looked ∷ decimal faults ∷ [])
 
 abbrev pub checked_text : Scheme → Checked → List ℕ
-checked_text scheme c = flat_map (fault_line scheme) c.faults ++ check_end_line c.more (length c.looked) (length c.faults)
+checked_text scheme c = flat_map (fault_line scheme) c.faults ++ check_end_line c.more (length c.looked)
+    (length c.faults)

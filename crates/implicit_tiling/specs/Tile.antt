@@ -1,6 +1,7 @@
 -- Tiles, their Morton indices and their order (OGC 22-025r4, implicit tiling: subdivision scheme, tile coordinates,
 -- Morton index).
-use Rattle.std.specs.Prelude.{ℕ, zero, suc, ◌≡◌, ◌+◌, ◌-◌, ◌*◌, ◌/◌, ◌%◌, ◌^◌, ◌<◌, ◌&&◌, ◌||◌, ◌==◌, nat_lt, Bool, true, List, map, sum}
+use Rattle.std.specs.Prelude.{ℕ, zero, suc, ◌≡◌, ◌+◌, ◌-◌, ◌*◌, ◌/◌, ◌%◌, ◌^◌, ◌<◌, ◌&&◌, ◌||◌, ◌==◌, nat_lt, Bool}
+use Rattle.std.specs.Prelude.{true, List, map, sum}
 use Rattle.std.specs.List.{range_with_len, flat_map, AllPairs}
 use Rattle.implicit_tiling.specs.declared.Scheme.{Scheme}
 use Rattle.implicit_tiling.specs.declared.Scheme.TheVariants.{Quad, Oct}
@@ -57,7 +58,8 @@ place_of scheme x y z j = bit j x + 2 * bit j y + 4 * depth_of scheme (bit j z)
 
 -- the first places of three numbers, put together
 abbrev pub interleaved : Scheme → ℕ → ℕ → ℕ → ℕ → ℕ
-interleaved scheme places x y z = sum (map (λ j. branching scheme ^ j * place_of scheme x y z j) (range_with_len 0 places))
+interleaved scheme places x y z = sum (map
+    (λ j. branching scheme ^ j * place_of scheme x y z j) (range_with_len 0 places))
 
 -- the Morton index of a tile within its level
 abbrev pub index : Scheme → Tile → ℕ

@@ -37,7 +37,8 @@ pub fn coords3(m: u64) -> (u32, u32, u32)
     ensures y_fits { result.1 < 2 ^ 21 }
     ensures z_fits { result.2 < 2 ^ 21 }
     ensures index { interleaved Scheme.Oct 21 result.0 result.1 result.2 ≡ m }
-    ensures only { (x y z : ℕ) → x < 2 ^ 21 → y < 2 ^ 21 → z < 2 ^ 21 → interleaved Scheme.Oct 21 x y z ≡ m → (result.0 ≡ x) × (result.1 ≡ y) × (result.2 ≡ z) }
+    ensures only { (x y z : ℕ) → x < 2 ^ 21 → y < 2 ^ 21 → z < 2 ^ 21 → interleaved Scheme.Oct 21 x y z ≡ m
+        → (result.0 ≡ x) × (result.1 ≡ y) × (result.2 ≡ z) }
 {
     (gather(m), gather(m >> 1), gather(m >> 2))
 }

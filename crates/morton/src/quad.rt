@@ -30,7 +30,8 @@ pub fn index2(x: u32, y: u32) -> u64
 #[inline]
 pub fn coords2(m: u64) -> (u32, u32)
     ensures index { interleaved Scheme.Quad 32 result.0 result.1 0 ≡ m }
-    ensures only { (x y : ℕ) → x < 2 ^ 32 → y < 2 ^ 32 → interleaved Scheme.Quad 32 x y 0 ≡ m → (result.0 ≡ x) × (result.1 ≡ y) }
+    ensures only { (x y : ℕ) → x < 2 ^ 32 → y < 2 ^ 32 → interleaved Scheme.Quad 32 x y 0 ≡ m → (result.0 ≡ x)
+        × (result.1 ≡ y) }
 {
     (gather(m), gather(m >> 1))
 }

@@ -3,7 +3,8 @@ use Rattle.std.specs.Prelude.{ℕ, List, ◌++◌, codes, Option, Some, None}
 use Rattle.std.specs.Fmt.{decimal}
 use Rattle.program_status.specs.declared.ending.ErrorLine.{ErrorLine}
 use Rattle.program_status.specs.declared.status.Status.{Status}
-use Rattle.program_status.specs.declared.status.Status.TheVariants.{Done, Faulted, Usage, BadLayout, ReadFault, WriteFault, InputFault, Memory, InputLong}
+use Rattle.program_status.specs.declared.status.Status.TheVariants.{Done, Faulted, Usage, BadLayout, ReadFault}
+use Rattle.program_status.specs.declared.status.Status.TheVariants.{WriteFault, InputFault, Memory, InputLong}
 
 -- the exit status
 abbrev pub exit_of : Status → ℕ

@@ -15,7 +15,8 @@ fault_seen scheme f = (word_tile scheme f.root, f.number)
 
 -- the text of a check that found these faults and ended so
 abbrev pub found_text : Scheme → List FoundFault → CheckEnd → List ℕ
-found_text scheme found end = flat_map (fault_line scheme) (map (fault_seen scheme) found) ++ check_end_line end.more end.looked (length found)
+found_text scheme found end = flat_map (fault_line scheme) (map (fault_seen scheme) found)
+    ++ check_end_line end.more end.looked (length found)
 
 abbrev pub end_of_check : Checked → CheckEnd
 end_of_check c = record { looked = length c.looked; more = c.more }

@@ -16,13 +16,16 @@ use Rattle.tile_coords.specs.Found.{found_of}
 
 -- within the limits, the text by the words of the answer's tiles is the text of the answer
 abbrev pub WordsMakeTheText : Type 0
-WordsMakeTheText = (s : Scene) (region : Region) → region.level < most_levels s.layout.scheme → length s.layout.contents ≤ most_contents
-    → words_text s.layout (map (tile_word s) (answer s region).tiles) (ended (answer s region).end) ≡ answer_text s (answer s region)
+WordsMakeTheText = (s : Scene) (region : Region) → region.level < most_levels s.layout.scheme
+    → length s.layout.contents ≤ most_contents
+    → words_text s.layout (map (tile_word s) (answer s region).tiles) (ended (answer s region).end)
+    ≡ answer_text s (answer s region)
 
 -- within the limits, the text of a check by the words of the faulty roots is the text of the check
 abbrev pub FoundMakeTheText : Type 0
 FoundMakeTheText = (s : Scene) → s.layout.levels ≤ most_levels s.layout.scheme
-    → found_text s.layout.scheme (map (found_of s.layout.scheme) (checked s).faults) (end_of_check (checked s)) ≡ checked_text s.layout.scheme (checked s)
+    → found_text s.layout.scheme (map (found_of s.layout.scheme) (checked s).faults) (end_of_check (checked s))
+    ≡ checked_text s.layout.scheme (checked s)
 
 -- three words that are read to a line are read to the same when they are joined by spaces
 abbrev pub JoinedIsItsWords : Type 0

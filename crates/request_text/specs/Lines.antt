@@ -33,4 +33,5 @@ refusal_number BoxOut = 5
 -- the parts before and behind the first separator, or the text alone
 abbrev pub IsSplitOnce : ℕ → List ℕ → Option (Bor (List ℕ) × Bor (List ℕ)) → Type 0
 IsSplitOnce separator text None = slice_split (λ c. c == separator) text ≡ text ∷ []
-IsSplitOnce separator text (Some r) = slice_split (λ c. c == separator) text ≡ r.0.now ∷ slice_split (λ c. c == separator) r.1.now
+IsSplitOnce separator text (Some r) = slice_split (λ c. c == separator) text ≡ r.0.now ∷ slice_split
+    (λ c. c == separator) r.1.now

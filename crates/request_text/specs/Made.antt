@@ -14,4 +14,5 @@ survey_state false = codes "complete"
 
 -- the files, the tiles, the tiles of the answer for all of them and their contents
 abbrev pub survey_text : ℕ → ℕ → ℕ → ℕ → Bool → List ℕ
-survey_text files tiles listed contents more = line (codes "survey" ∷ decimal files ∷ decimal tiles ∷ decimal listed ∷ decimal contents ∷ survey_state more ∷ [])
+survey_text files tiles listed contents more = line
+    (codes "survey" ∷ decimal files ∷ decimal tiles ∷ decimal listed ∷ decimal contents ∷ survey_state more ∷ [])

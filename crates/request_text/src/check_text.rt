@@ -41,7 +41,8 @@ pub fn write_check<O: Outlet>(
 // Appends the line of a fault.
 fn push_fault_line(scheme: Scheme, fault: FoundFault, piece: &mut String) -> Result<(), AllocError>
     requires { IsWord scheme fault.root }
-    ensures { OnOk result (string_bytes piece.new ≡ string_bytes piece.old ++ fault_line scheme (fault_seen scheme fault)) }
+    ensures { OnOk result (string_bytes piece.new ≡ string_bytes piece.old
+        ++ fault_line scheme (fault_seen scheme fault)) }
 {
     piece.push_str("fault")?;
     push_field(fault.number, piece)?;
@@ -52,7 +53,8 @@ fn push_fault_line(scheme: Scheme, fault: FoundFault, piece: &mut String) -> Res
 
 // Appends the end line of a check that found so many faults.
 fn push_check_end(end: CheckEnd, faults: usize, piece: &mut String) -> Result<(), AllocError>
-    ensures { OnOk result (string_bytes piece.new ≡ string_bytes piece.old ++ check_end_line end.more end.looked faults) }
+    ensures { OnOk result (string_bytes piece.new ≡ string_bytes piece.old
+        ++ check_end_line end.more end.looked faults) }
 {
     piece.push_str(if end.more {
         "end\ttoo-many"

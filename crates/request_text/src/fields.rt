@@ -12,7 +12,8 @@ use tile_word::{WordTile, tile_of};
 
 // Appends a text, a number and LF.
 pub(crate) fn push_count(text: &str, count: usize, piece: &mut String) -> Result<(), AllocError>
-    ensures { OnOk result (string_bytes piece.new ≡ string_bytes piece.old ++ (text.now ++ (decimal count ++ 10 ∷ []))) }
+    ensures { OnOk result (string_bytes piece.new ≡ string_bytes piece.old
+        ++ (text.now ++ (decimal count ++ 10 ∷ []))) }
 {
     piece.push_str(text)?;
     push_number(count as u64, piece)?;
@@ -22,7 +23,8 @@ pub(crate) fn push_count(text: &str, count: usize, piece: &mut String) -> Result
 // Appends the level and the coordinates of the tile of a word, joined by TAB.
 pub(crate) fn push_place(scheme: Scheme, word: Word, piece: &mut String) -> Result<(), AllocError>
     requires { IsWord scheme word }
-    ensures { OnOk result (string_bytes piece.new ≡ string_bytes piece.old ++ joined (coordinate_texts scheme (word_tile scheme word))) }
+    ensures { OnOk result (string_bytes piece.new ≡ string_bytes piece.old
+        ++ joined (coordinate_texts scheme (word_tile scheme word))) }
 {
     let Some(WordTile { tile, .. }) = tile_of(scheme, word) else {
         unreachable!()
@@ -36,7 +38,8 @@ pub(crate) fn push_coordinates(
     tile: &Tile,
     piece: &mut String,
 ) -> Result<(), AllocError>
-    ensures { OnOk result (string_bytes piece.new ≡ string_bytes piece.old ++ joined (coordinate_texts scheme tile.now)) }
+    ensures { OnOk result (string_bytes piece.new ≡ string_bytes piece.old
+        ++ joined (coordinate_texts scheme tile.now)) }
 {
     push_number(u64::from(tile.level), piece)?;
     push_field(u64::from(tile.x), piece)?;

@@ -4,7 +4,8 @@ ghost use Rattle.std.specs.List.{flat_map, All};
 ghost use Rattle.std.specs.Fmt.{decimal};
 ghost use Rattle.implicit_tiling.specs.Code.{IsWord, word_tile};
 ghost use Rattle.implicit_tiling.specs.Answer.{fault, most_tiles};
-ghost use Rattle.implicit_tiling.specs.Text.{coordinate_texts, content_texts, tile_line, word_line, words_text, end_line, step_end_line};
+ghost use Rattle.implicit_tiling.specs.Text.{coordinate_texts, content_texts, tile_line, word_line, words_text};
+ghost use Rattle.implicit_tiling.specs.Text.{end_line, step_end_line};
 ghost use Rattle.tile_coords.specs.Ends.{end_seen, EndsAtRoot};
 ghost use Rattle.request_text.specs.Fields.{joined, after_tab};
 

@@ -1,8 +1,11 @@
 // Request lines: LEVEL LO HI.
-ghost use Rattle.std.specs.Prelude.{◌≡◌, ◌==◌, ◌<◌, ◌≤◌, ◌&&◌, ◌∷◌, [], Some, None, IfSome, is_some, position, option_map, slice_index, if◌then◌else◌, length};
+ghost use Rattle.std.specs.Prelude.{◌≡◌, ◌==◌, ◌<◌, ◌≤◌, ◌&&◌, ◌∷◌, [], Some, None, IfSome, is_some, position};
+ghost use Rattle.std.specs.Prelude.{option_map, slice_index, if◌then◌else◌, length};
 ghost use Rattle.std.specs.List.{list_all};
 ghost use Rattle.std.specs.Char.{is_ascii_digit};
-ghost use Rattle.implicit_tiling.specs.Request.{number as number_in, coordinates_in, has_digits as digits_in, begins_well as begins, line_of_words, line_of as line_in, plan_of_line};
+ghost use Rattle.implicit_tiling.specs.Request.{number as number_in, coordinates_in, has_digits as digits_in};
+ghost use Rattle.implicit_tiling.specs.Request.{begins_well as begins, line_of_words, line_of as line_in};
+ghost use Rattle.implicit_tiling.specs.Request.{plan_of_line};
 ghost use Rattle.request_text.specs.Lines.{line_seen, coordinates_seen, places_of, refusal_number, IsSplitOnce};
 
 use tile_coords::{Plan, Region, RegionFault, Scheme};

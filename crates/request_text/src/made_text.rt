@@ -9,8 +9,8 @@ use crate::fields::push_field;
 use scene_ports::{GiveFault, Outlet, give_rest};
 use std::alloc::{AllocError, Global};
 
-/// Gives the text of a tileset that was made: how many files were put, and how many tiles they hold. After an `Err` some
-/// front of the text was given.
+/// Gives the text of a tileset that was made: how many files were put, and how many tiles they hold. After an `Err`
+/// some front of the text was given.
 pub fn write_made<O: Outlet>(
     alloc: Global,
     files: u64,
@@ -29,8 +29,8 @@ pub fn write_made<O: Outlet>(
 }
 
 /// Gives the text of a survey: the files, the tiles, how many tiles the answer for all of them lists and how many
-/// contents these have, and whether there are more tiles than an answer holds. After an `Err` some front of the text was
-/// given.
+/// contents these have, and whether there are more tiles than an answer holds. After an `Err` some front of the text
+/// was given.
 pub fn write_survey<O: Outlet>(
     alloc: Global,
     files: u64,
@@ -40,7 +40,8 @@ pub fn write_survey<O: Outlet>(
     more: bool,
     out: &mut O,
 ) -> Result<(), GiveFault>
-    ensures given { OnOk result (Appends (O.given out.old) (O.given out.new) (survey_text files tiles listed contents more)) }
+    ensures given { OnOk result (Appends (O.given out.old) (O.given out.new)
+        (survey_text files tiles listed contents more)) }
     ensures front { GivesFront (O.given out.old) (O.given out.new) (survey_text files tiles listed contents more) }
     ensures failed { result ≡ Err GiveFault.WriteFault → Rose (O.faults out.old) (O.faults out.new) }
     ensures later { O.faults out.old ≤ O.faults out.new }
@@ -68,7 +69,8 @@ fn push_survey(
     more: bool,
     piece: &mut String,
 ) -> Result<(), AllocError>
-    ensures { OnOk result (string_bytes piece.new ≡ string_bytes piece.old ++ survey_text files tiles listed contents more) }
+    ensures { OnOk result (string_bytes piece.new ≡ string_bytes piece.old
+        ++ survey_text files tiles listed contents more) }
 {
     piece.push_str("survey")?;
     push_field(files, piece)?;

@@ -6,7 +6,8 @@ ghost use Rattle.std.specs.Io.KnownBytes.{Appends};
 ghost use Rattle.implicit_tiling.specs.Code.{IsWord, word_tile};
 ghost use Rattle.implicit_tiling.specs.Answer.{fault};
 ghost use Rattle.implicit_tiling.specs.Template.{filled};
-ghost use Rattle.implicit_tiling.specs.Text.{coordinate_texts, content_texts, tile_line, word_line, words_text, end_line, step_end_line, refused_text};
+ghost use Rattle.implicit_tiling.specs.Text.{coordinate_texts, content_texts, tile_line, word_line, words_text};
+ghost use Rattle.implicit_tiling.specs.Text.{end_line, step_end_line, refused_text};
 ghost use Rattle.tile_coords.specs.Ends.{end_seen, EndsAtRoot};
 ghost use Rattle.scene_ports.specs.Counts.{Rose};
 ghost use Rattle.scene_ports.specs.Output.{GivesFront};
@@ -31,8 +32,10 @@ pub fn write_answer<O: Outlet>(
 ) -> Result<(), GiveFault>
     requires words { All (IsWord layout.now.scheme) words.now }
     requires root { EndsAtRoot layout.now.scheme end }
-    ensures given { OnOk result (Appends (O.given out.old) (O.given out.new) (words_text layout.now words.now (end_seen layout.now.scheme end))) }
-    ensures front { GivesFront (O.given out.old) (O.given out.new) (words_text layout.now words.now (end_seen layout.now.scheme end)) }
+    ensures given { OnOk result (Appends (O.given out.old) (O.given out.new) (words_text layout.now words.now
+        (end_seen layout.now.scheme end))) }
+    ensures front { GivesFront (O.given out.old) (O.given out.new) (words_text layout.now words.now
+        (end_seen layout.now.scheme end)) }
     ensures failed { result ≡ Err GiveFault.WriteFault → Rose (O.faults out.old) (O.faults out.new) }
     ensures later { O.faults out.old ≤ O.faults out.new }
     ensures aside { O.inlet_aside out.new ≡ O.inlet_aside out.old }
@@ -100,7 +103,8 @@ fn push_end_line(
     piece: &mut String,
 ) -> Result<(), AllocError>
     requires { EndsAtRoot scheme end }
-    ensures { OnOk result (string_bytes piece.new ≡ string_bytes piece.old ++ step_end_line scheme count (end_seen scheme end)) }
+    ensures { OnOk result (string_bytes piece.new ≡ string_bytes piece.old ++ step_end_line scheme count
+        (end_seen scheme end)) }
 {
     match end {
         WalkEnd::Partial => push_count("end\tpartial\t", count, piece),
@@ -119,7 +123,8 @@ fn push_fault(
     piece: &mut String,
 ) -> Result<(), AllocError>
     requires { IsWord scheme root }
-    ensures { OnOk result (string_bytes piece.new ≡ string_bytes piece.old ++ end_line scheme count (fault (word_tile scheme root) number)) }
+    ensures { OnOk result (string_bytes piece.new ≡ string_bytes piece.old
+        ++ end_line scheme count (fault (word_tile scheme root) number)) }
 {
     piece.push_str("end\tfault")?;
     push_field(count as u64, piece)?;
@@ -138,7 +143,8 @@ fn push_contents(
     piece: &mut String,
 ) -> Result<(), AllocError>
     requires { length contents.now ≤ 8 }
-    ensures { OnOk result (string_bytes piece.new ≡ string_bytes piece.old ++ flat_map after_tab (content_texts scheme tile.now mask 0 contents.now)) }
+    ensures { OnOk result (string_bytes piece.new ≡ string_bytes piece.old
+        ++ flat_map after_tab (content_texts scheme tile.now mask 0 contents.now)) }
 {
     for (content, template) in contents.iter().enumerate() {
         if mask >> content & 1 == 1 {
@@ -155,7 +161,8 @@ fn push_content(
     tile: &Tile,
     piece: &mut String,
 ) -> Result<(), AllocError>
-    ensures { OnOk result (string_bytes piece.new ≡ string_bytes piece.old ++ after_tab (filled scheme template.now tile.now)) }
+    ensures { OnOk result (string_bytes piece.new ≡ string_bytes piece.old
+        ++ after_tab (filled scheme template.now tile.now)) }
 {
     piece.push('\t')?;
     template.fill(scheme.axes(), tile.level, [tile.x, tile.y, tile.z], piece)

@@ -1,5 +1,5 @@
--- Files as values: pairs of a name and bytes in memory, that no name stands there twice, and lists of files in which the
--- same is found (this project's own).
+-- Files as values: pairs of a name and bytes in memory, that no name stands there twice, and lists of files in which
+-- the same is found (this project's own).
 use Rattle.std.specs.Prelude.{ℕ, ◌≡◌, List, [], ◌∷◌, IsNone, map, String, string_bytes, Vec}
 use Rattle.std.specs.declared.alloc.Global.{Global}
 use mathlib.Core.HLevel.{×_prop, Unit-prop}

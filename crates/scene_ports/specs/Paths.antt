@@ -1,5 +1,6 @@
 -- The paths of the current folder, and which of them a name stands for (this project's own).
-use Rattle.std.specs.Prelude.{ℕ, Bool, not, ◌&&◌, ◌==◌, List, [], ◌∷◌, length, slice_index, if◌then◌else◌, Option, Some, None}
+use Rattle.std.specs.Prelude.{ℕ, Bool, not, ◌&&◌, ◌==◌, List, [], ◌∷◌, length, slice_index, if◌then◌else◌, Option}
+use Rattle.std.specs.Prelude.{Some, None}
 use Rattle.std.specs.List.{list_any, slice_split}
 use Rattle.std.specs.Str.{bytes_eq, is_utf8}
 use Rattle.percent_encoding.specs.Percent.{percent_decode}
@@ -18,7 +19,8 @@ has_parent_part path = list_any (λ part. bytes_eq part parent_part) (slice_spli
 
 -- it stays in the folder: it is not empty and not absolute, and has no zero byte and no part `..`
 abbrev pub is_plain : List ℕ → Bool
-is_plain path = not (length path == 0) && not (slice_index path 0 == slash) && not (list_any (λ byte. byte == 0) path) && not (has_parent_part path)
+is_plain path = not (length path == 0) && not (slice_index path 0 == slash) && not (list_any (λ byte. byte == 0) path)
+    && not (has_parent_part path)
 
 -- the path that decoded bytes are, if any: UTF-8 that stays in the folder
 abbrev pub path_in : List ℕ → Option (List ℕ)

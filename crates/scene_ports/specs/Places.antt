@@ -1,4 +1,5 @@
--- For proofs and inner functions: files in the order of their names, and a map that has the place of each name (this project's own).
+-- For proofs and inner functions: files in the order of their names, and a map that has the place of each name (this
+-- project's own).
 use Rattle.std.specs.Prelude.{ℕ, ◌≡◌, List, position, String, string_bytes, Vec}
 use Rattle.std.specs.declared.alloc.Global.{Global}
 use Rattle.std.specs.Cmp.Lexicographic.{slice_cmp}
@@ -15,4 +16,5 @@ IsSortedByName files = IsStrictlySortedBy (slice_cmp nat_cmp) (keys_of files)
 
 -- the map has the place of the first file of each name, and no other name
 abbrev pub HasPlaces : {S : Type 0} → HashMap (String Global) ℕ S → List (String Global × Vec ℕ Global) → Type 0
-HasPlaces places pairs = (name : List ℕ) → get_by_text places name ≡ position (λ pair. bytes_eq (string_bytes pair.0) name) pairs
+HasPlaces places pairs = (name : List ℕ) → get_by_text places name ≡ position
+    (λ pair. bytes_eq (string_bytes pair.0) name) pairs

@@ -22,7 +22,8 @@ impl MemoryFiles {
     /// A source of these files, with no fetch and no fault so far. None exactly where two names are equal.
     pub fn new(files: Vec<(String, Vec<u8>)>, failing: Vec<u64>) -> Option<MemoryFiles>
         ensures some { IsSome result ↔ HasDistinctNames (files_of files.items) }
-        ensures told { IfSome result (λ source. ⟦<MemoryFiles as FileSource>⟧.told source ≡ Some (files_of files.items)) }
+        ensures told { IfSome result
+            (λ source. ⟦<MemoryFiles as FileSource>⟧.told source ≡ Some (files_of files.items)) }
         ensures fetches { IfSome result (λ source. ⟦<MemoryFiles as FileSource>⟧.fetches source ≡ 0) }
         ensures faults { IfSome result (λ source. ⟦<MemoryFiles as FileSource>⟧.faults source ≡ 0) }
     {

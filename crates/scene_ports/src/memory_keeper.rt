@@ -51,8 +51,10 @@ impl FileKeeper for MemoryKeeper {
     ghost distinct = { λ s. s.names };
 
     fn put(&mut self, name: &str, bytes: &[u8]) -> Put
-        ensures puts { PutsKnown name.now bytes.now (Some (files_of self.old.files.items)) (Some (files_of self.new.files.items)) result }
-        ensures memory { result ≡ Put.Memory → Some (files_of self.new.files.items) ≡ Some (files_of self.old.files.items) }
+        ensures puts { PutsKnown name.now bytes.now (Some (files_of self.old.files.items))
+            (Some (files_of self.new.files.items)) result }
+        ensures memory { result ≡ Put.Memory
+            → Some (files_of self.new.files.items) ≡ Some (files_of self.old.files.items) }
         ensures failed { result ≡ Put.Failed → Rose self.old.faults self.new.faults }
         ensures sure { result ≢ Put.Failed → self.new.faults ≡ self.old.faults }
         ensures later { self.old.faults ≤ self.new.faults }
@@ -79,7 +81,8 @@ fn keep(
 ) -> Result<(), AllocError>
     requires { HasDistinctNames (files_of files.old.items) }
     ensures distinct { HasDistinctNames (files_of files.new.items) }
-    ensures kept { OnOk result (Puts name.now bytes.now (files_of files.old.items) (files_of files.new.items) Put.Kept) }
+    ensures kept { OnOk result (Puts name.now bytes.now (files_of files.old.items)
+        (files_of files.new.items) Put.Kept) }
     ensures memory { OnErr result (files.new.items ≡ files.old.items) }
 {
     let pair = (

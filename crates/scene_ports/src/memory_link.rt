@@ -4,8 +4,8 @@ ghost use Rattle.std.specs.Prelude.{◌≡◌, ◌≤◌, [], Some, drop, length
 use crate::{Give, Inlet, Outlet, Take};
 use std::alloc::Global;
 
-/// Bytes in memory, taken at most `piece` at a time, and a place that takes what is given, whole pieces. Of the takes and
-/// gives, counted together from 1, those whose numbers are in `failing` fail.
+/// Bytes in memory, taken at most `piece` at a time, and a place that takes what is given, whole pieces. Of the takes
+/// and gives, counted together from 1, those whose numbers are in `failing` fail.
 #[derive(Drop)]
 pub struct MemoryLink {
     bytes: Vec<u8>,
@@ -30,7 +30,8 @@ impl MemoryLink {
         ensures faults { ⟦<MemoryLink as Inlet>⟧.faults result ≡ 0 }
         ensures give_faults { ⟦<MemoryLink as Outlet>⟧.faults result ≡ 0 }
         ensures given_aside { ⟦<MemoryLink as Inlet>⟧.given_aside result ≡ Some [] }
-        ensures inlet_aside { ⟦<MemoryLink as Outlet>⟧.inlet_aside result ≡ Some (record { left = Some bytes.items; taken = 0 }) }
+        ensures inlet_aside { ⟦<MemoryLink as Outlet>⟧.inlet_aside result
+            ≡ Some (record { left = Some bytes.items; taken = 0 }) }
     {
         MemoryLink {
             bytes,

@@ -50,7 +50,8 @@ pub fn give_all<O: Outlet>(out: &mut O, bytes: &[u8]) -> Result<(), GiveFault>
     Ok(())
 }
 
-/// Gives the piece that is held back, and empties it. After an `Err` some front of it was given, and the piece is as it was.
+/// Gives the piece that is held back, and empties it. After an `Err` some front of it was given, and the piece is as
+/// it was.
 pub fn give_rest<O: Outlet>(out: &mut O, piece: &mut String) -> Result<(), GiveFault>
     ensures given { OnOk result (Appends (O.given out.old) (O.given out.new) (string_bytes piece.old)) }
     ensures emptied { OnOk result (string_bytes piece.new ≡ []) }
@@ -66,11 +67,12 @@ pub fn give_rest<O: Outlet>(out: &mut O, piece: &mut String) -> Result<(), GiveF
     Ok(())
 }
 
-/// Gives the piece that is held back once it holds `FULL` bytes, and empties it then; a shorter piece waits, and the outlet
-/// isn't called. Called after each line that a text gains, it makes few calls of the outlet. After an `Err` some front of
-/// the piece was given, and the piece is as it was.
+/// Gives the piece that is held back once it holds `FULL` bytes, and empties it then; a shorter piece waits, and the
+/// outlet isn't called. Called after each line that a text gains, it makes few calls of the outlet. After an `Err`
+/// some front of the piece was given, and the piece is as it was.
 pub fn give_when_full<O: Outlet>(out: &mut O, piece: &mut String) -> Result<(), GiveFault>
-    ensures given { OnOk result (GivesAllBut (O.given out.old) (O.given out.new) (string_bytes piece.new) (string_bytes piece.old)) }
+    ensures given { OnOk result (GivesAllBut (O.given out.old) (O.given out.new) (string_bytes piece.new)
+        (string_bytes piece.old)) }
     ensures waits { string_len piece.old < FULL → out.new ≡ out.old }
     ensures ok { string_len piece.old < FULL → IsOk result }
     ensures kept { string_len piece.old < FULL → string_bytes piece.new ≡ string_bytes piece.old }

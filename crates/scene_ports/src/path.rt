@@ -17,10 +17,11 @@ pub(crate) struct PlainPath<'a> {
 }
 
 impl<'a> PlainPath<'a> {
-    // The path that a name stands for. None where the decoded name is no path of the folder. A name without a `%` is its
-    // own path, and takes no memory.
+    // The path that a name stands for. None where the decoded name is no path of the folder. A name without a `%` is
+    // its own path, and takes no memory.
     pub(crate) fn named(alloc: Global, name: &'a str) -> Result<Option<PlainPath<'a>>, AllocError>
-        ensures path { IfOk result (λ found. option_map (λ path. cow_str_bytes path.text) found ≡ paths.path_named name.now) }
+        ensures path { IfOk result (λ found. option_map (λ path. cow_str_bytes path.text) found
+            ≡ paths.path_named name.now) }
         ensures memory { All (λ byte. byte ≢ percent_sign) name.now → IsOk result }
     {
         let text = match percent_decode(name.as_bytes()).decode_utf8(alloc) {

@@ -25,7 +25,8 @@ impl SureFiles {
     pub fn new(mut files: Vec<(String, Vec<u8>)>) -> Option<SureFiles>
         ensures some { IsSome result ↔ HasDistinctNames (files_of files.items) }
         ensures tells { IfSome result (λ source. IsSome (⟦<SureFiles as FileSource>⟧.told source)) }
-        ensures told { IfSome result (λ source. IfSome (⟦<SureFiles as FileSource>⟧.told source) (λ all. HaveSameFiles all (files_of files.items))) }
+        ensures told { IfSome result (λ source. IfSome (⟦<SureFiles as FileSource>⟧.told source)
+            (λ all. HaveSameFiles all (files_of files.items))) }
         ensures fetches { IfSome result (λ source. ⟦<SureFiles as FileSource>⟧.fetches source ≡ 0) }
     {
         if !sort_by_name(&mut files) {

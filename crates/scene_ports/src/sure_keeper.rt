@@ -10,9 +10,9 @@ use crate::{FileKeeper, Put};
 use std::alloc::{AllocError, Global};
 use std::collections::HashMap;
 
-/// Files in memory, in the order of their first puts, and the place of each name, so that a put takes as long among many
-/// files as among few. No put of them fails, so a writer that reports a write fault over them is refused by its own
-/// contract.
+/// Files in memory, in the order of their first puts, and the place of each name, so that a put takes as long among
+/// many files as among few. No put of them fails, so a writer that reports a write fault over them is refused by its
+/// own contract.
 #[derive(Drop)]
 pub struct SureKeeper {
     files: Vec<(String, Vec<u8>)>,
@@ -44,7 +44,8 @@ impl SureKeeper {
 
     // Puts the pair in place of the one of its name, or behind all others.
     fn keep(&mut self, name: &str, bytes: &[u8]) -> Result<(), AllocError>
-        ensures kept { OnOk result (Puts name.now bytes.now (files_of self.old.files.items) (files_of self.new.files.items) Put.Kept) }
+        ensures kept { OnOk result (Puts name.now bytes.now (files_of self.old.files.items)
+            (files_of self.new.files.items) Put.Kept) }
         ensures memory { OnErr result (self.new.files.items ≡ self.old.files.items) }
     {
         let pair = (
@@ -62,7 +63,8 @@ impl SureKeeper {
 
     // Puts the pair behind all others. All that may want memory comes before the first change.
     fn add(&mut self, pair: (String, Vec<u8>)) -> Result<(), AllocError>
-        requires { position (λ other. bytes_eq (string_bytes other.0) (string_bytes pair.0)) self.old.files.items ≡ None }
+        requires { position (λ other. bytes_eq (string_bytes other.0) (string_bytes pair.0)) self.old.files.items
+            ≡ None }
         ensures added { OnOk result (self.new.files.items ≡ self.old.files.items ++ pair ∷ []) }
         ensures memory { OnErr result (self.new.files.items ≡ self.old.files.items) }
     {

@@ -8,7 +8,9 @@ use Rattle.implicit_tiling.specs.Tile.{Tile}
 use Rattle.implicit_tiling.specs.Scene.{Layout}
 use Rattle.implicit_tiling.specs.Subtree.{Subtree}
 use Rattle.implicit_tileset.specs.Record.{Availability, BufferView, SubtreeRecord}
-use Rattle.implicit_tileset.specs.SubtreeFile.{Used, Held, names_no_view, is_external, is_out, is_short, is_miscounted, raw_bits, view_bit, wanted_contents, used_of, subtree_from}
+use Rattle.implicit_tileset.specs.SubtreeFile.{Used, Held, names_no_view, is_external, is_out, is_short}
+use Rattle.implicit_tileset.specs.SubtreeFile.{is_miscounted, raw_bits, view_bit, wanted_contents, used_of}
+use Rattle.implicit_tileset.specs.SubtreeFile.{subtree_from}
 use Rattle.subtree_file.specs.declared.fault.DecodeFault.{DecodeFault}
 use Rattle.subtree_file.specs.declared.fault.DecodeFault.TheVariants.{Fault, Memory}
 

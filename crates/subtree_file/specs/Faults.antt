@@ -1,11 +1,14 @@
--- For proofs and inner functions: the numbers of the faults of a subtree file that its record and its bits show (this project's own).
+-- For proofs and inner functions: the numbers of the faults of a subtree file that its record and its bits show (this
+-- project's own).
 use Rattle.std.specs.Prelude.{ℕ, Option, Some, None}
 use Rattle.subtree_file.specs.declared.fault.BitsFault.{BitsFault}
-use Rattle.subtree_file.specs.declared.fault.BitsFault.TheVariants.{ViewUnknown, ExternalBuffer, ViewOut, BitsShort, CountWrong, ParentMissing, ContentWithoutTile}
+use Rattle.subtree_file.specs.declared.fault.BitsFault.TheVariants.{ViewUnknown, ExternalBuffer, ViewOut, BitsShort}
+use Rattle.subtree_file.specs.declared.fault.BitsFault.TheVariants.{CountWrong, ParentMissing, ContentWithoutTile}
 use Rattle.subtree_file.specs.declared.fault.DecodeFault.{DecodeFault}
 use Rattle.subtree_file.specs.declared.fault.DecodeFault.TheVariants.{Fault, Memory}
 use Rattle.availability.specs.declared.subtree.RuleFault.{RuleFault}
-use Rattle.availability.specs.declared.subtree.RuleFault.TheVariants.{ParentMissing as parent_missing, ContentWithoutTile as content_without_tile}
+use Rattle.availability.specs.declared.subtree.RuleFault.TheVariants.{ParentMissing as parent_missing}
+use Rattle.availability.specs.declared.subtree.RuleFault.TheVariants.{ContentWithoutTile as content_without_tile}
 
 abbrev pub bits_fault_number : BitsFault → ℕ
 bits_fault_number ViewUnknown = 12

@@ -1,4 +1,5 @@
--- For proofs and inner functions: what the reader of a file's parts answers, beside what is stated (this project's own).
+-- For proofs and inner functions: what the reader of a file's parts answers, beside what is stated (this project's
+-- own).
 use Rattle.std.specs.Prelude.{ℕ, ◌≡◌, Result, Ok, Err}
 use Rattle.implicit_tileset.specs.SubtreeFile.{Parts as parts}
 use Rattle.subtree_file.specs.declared.parts.Parts.{Parts}

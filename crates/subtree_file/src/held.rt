@@ -1,7 +1,9 @@
 // A record beside the bytes of its internal buffer, and what can be wrong with the place that an availability names.
 ghost use Rattle.std.specs.Prelude.{◌≡◌};
 ghost use Rattle.std.specs.List.{list_any};
-ghost use Rattle.implicit_tileset.specs.SubtreeFile.{view_named, buffer_named, names_no_view as names_no_view_of, is_external as is_external_of, is_out as is_out_of, is_short as is_short_of};
+ghost use Rattle.implicit_tileset.specs.SubtreeFile.{view_named, buffer_named, names_no_view as names_no_view_of};
+ghost use Rattle.implicit_tileset.specs.SubtreeFile.{is_external as is_external_of, is_out as is_out_of};
+ghost use Rattle.implicit_tileset.specs.SubtreeFile.{is_short as is_short_of};
 ghost use Rattle.subtree_json.specs.Seen.{availability_seen};
 ghost use Rattle.subtree_file.specs.Decoding.{Decodes, views_checked};
 

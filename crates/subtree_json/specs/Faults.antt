@@ -1,7 +1,8 @@
 -- The numbers of the faults of the JSON part in the table of faults of a subtree file (this project's own).
 use Rattle.std.specs.Prelude.{ℕ, Option, Some, None}
 use Rattle.subtree_json.specs.declared.fault.JsonFault.{JsonFault}
-use Rattle.subtree_json.specs.declared.fault.JsonFault.TheVariants.{BadJson, NotObject, BadBuffers, BadViews, BadAvailability, Memory}
+use Rattle.subtree_json.specs.declared.fault.JsonFault.TheVariants.{BadJson, NotObject, BadBuffers, BadViews}
+use Rattle.subtree_json.specs.declared.fault.JsonFault.TheVariants.{BadAvailability, Memory}
 
 abbrev pub fault_number : JsonFault → Option ℕ
 fault_number BadJson = Some 7

@@ -1,5 +1,6 @@
 -- Availabilities of the program, seen as those of the definitions (this project's own).
-use Rattle.implicit_tileset.specs.Record.{Availability as availability, constant, stream, ContentPart as content_part, well_formed, malformed}
+use Rattle.implicit_tileset.specs.Record.{Availability as availability, constant, stream, ContentPart as content_part}
+use Rattle.implicit_tileset.specs.Record.{well_formed, malformed}
 use Rattle.subtree_json.specs.declared.part.Availability.{Availability}
 use Rattle.subtree_json.specs.declared.part.Availability.TheVariants.{Constant, Stream}
 use Rattle.subtree_json.specs.declared.part.ContentPart.{ContentPart}

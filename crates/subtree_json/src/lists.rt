@@ -24,7 +24,8 @@ pub(crate) fn read_list<T: ListedPart>(
     alloc: Global,
     list: Option<&Value>,
 ) -> Result<Option<Vec<T>>, AllocError>
-    ensures { IfOk result (λ parts. option_map (λ v. v.items) parts ≡ list_read T.stated (option_map (λ v. view v.now) list.entry)) }
+    ensures { IfOk result (λ parts. option_map (λ v. v.items) parts ≡ list_read T.stated (option_map
+        (λ v. view v.now) list.entry)) }
 {
     let Some(list) = list else {
         return Ok(Some(Vec::new(alloc)));
@@ -47,7 +48,8 @@ pub(crate) fn read_contents(
     alloc: Global,
     list: Option<&Value>,
 ) -> Result<Option<Vec<ContentPart>>, AllocError>
-    ensures { IfOk result (λ parts. option_map (λ v. map content_seen v.items) parts ≡ list_read stated_content (option_map (λ v. view v.now) list.entry)) }
+    ensures { IfOk result (λ parts. option_map (λ v. map content_seen v.items) parts
+        ≡ list_read stated_content (option_map (λ v. view v.now) list.entry)) }
 {
     let Some(list) = list else {
         return Ok(Some(Vec::new(alloc)));

@@ -1,7 +1,9 @@
 // One member of a list each, and availability objects.
 ghost use Rattle.std.specs.Prelude.{◌≡◌, option_and_then, option_map};
 ghost use Rattle.serde_json.specs.View.{view};
-ghost use Rattle.implicit_tileset.specs.Record.{buffer_of as stated_buffer, view_of as stated_view, availability_of as stated_availability, availability_at as stated_at, content_of as stated_content, constant_named, number_in, stream_from};
+ghost use Rattle.implicit_tileset.specs.Record.{buffer_of as stated_buffer, view_of as stated_view};
+ghost use Rattle.implicit_tileset.specs.Record.{availability_of as stated_availability, availability_at as stated_at};
+ghost use Rattle.implicit_tileset.specs.Record.{content_of as stated_content, constant_named, number_in, stream_from};
 ghost use Rattle.subtree_json.specs.Seen.{availability_seen, content_seen};
 
 use crate::lists::ListedPart;
@@ -86,7 +88,8 @@ fn constant_of(value: &Value) -> Option<Availability>
 
 // The availability of a `bitstream`, beside which there may be a count.
 fn stream_of(bitstream: &Value, count: Option<&Value>) -> Option<Availability>
-    ensures { option_map availability_seen result ≡ stream_from (view bitstream.now) (option_map (λ c. view c.now) count.entry) }
+    ensures { option_map availability_seen result ≡ stream_from (view bitstream.now) (option_map
+        (λ c. view c.now) count.entry) }
 {
     let view = bitstream.as_u64()?;
     let count = match count {

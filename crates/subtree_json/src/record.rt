@@ -25,5 +25,11 @@ impl Model for SubtreeRecord {
 
     ghost Value = { subtree_record };
 
-    ghost view = { λ r. record { buffers = r.buffers.items; views = r.views.items; tiles = availability_seen r.tiles; contents = map content_seen r.contents.items; child = availability_seen r.child } };
+    ghost view = { λ r. record {
+      buffers = r.buffers.items;
+      views = r.views.items;
+      tiles = availability_seen r.tiles;
+      contents = map content_seen r.contents.items;
+      child = availability_seen r.child;
+    } };
 }

@@ -22,8 +22,8 @@ const TOO_LONG: u64 = 2;
 pub enum Outcome {
     /// A subtree of the layout that begins with the root.
     Good(Subtree),
-    /// The number of the file's first fault: 1 that there is no such file, 2 that it has more than `MOST_FILE_BYTES`, or
-    /// one of 3 to 18 that its bytes show.
+    /// The number of the file's first fault: 1 that there is no such file, 2 that it has more than `MOST_FILE_BYTES`,
+    /// or one of 3 to 18 that its bytes show.
     Bad(u64),
 }
 
@@ -47,9 +47,9 @@ impl From<AllocError> for WalkStop {
     }
 }
 
-/// Reads the subtree of a root, a tile of the layout at a level where subtrees begin, by one fetch (OGC 22-025r4, implicit
-/// tiling: subtrees). A missing file is the tileset's fault, so Bad; ReadFault is the source's alone. Memory may come before
-/// the fetch.
+/// Reads the subtree of a root, a tile of the layout at a level where subtrees begin, by one fetch (OGC 22-025r4,
+/// implicit tiling: subtrees). A missing file is the tileset's fault, so Bad; ReadFault is the source's alone. Memory
+/// may come before the fetch.
 pub fn read_subtree<S: FileSource>(
     alloc: Global,
     files: &mut S,
@@ -57,7 +57,8 @@ pub fn read_subtree<S: FileSource>(
     root: Tile,
 ) -> Result<Outcome, WalkStop>
     requires { IsRootOf layout.now root }
-    ensures told { IfSome (S.told files.old) (λ all. IfOk result (λ found. (scene_of all layout.now).outcome root ≡ outcome_seen found)) }
+    ensures told { IfSome (S.told files.old)
+        (λ all. IfOk result (λ found. (scene_of all layout.now).outcome root ≡ outcome_seen found)) }
     ensures found { IfOk result (IsOutcomeAt layout.now root) }
     ensures failed { result ≡ Err WalkStop.ReadFault → Rose (S.faults files.old) (S.faults files.new) }
     ensures later { S.faults files.old ≤ S.faults files.new }

@@ -1,6 +1,7 @@
 -- The canonical file of a subtree: of the files that hold the same bits this one is written (OGC 22-025r4, subtree
 -- binary format, subtree JSON format, availability; the choice is this project's own).
-use Rattle.std.specs.Prelude.{ℕ, ◌+◌, ◌-◌, ◌*◌, ◌/◌, ◌&&◌, not, Bool, List, [], ◌∷◌, ◌++◌, length, replicate, codes, if◌then◌else◌}
+use Rattle.std.specs.Prelude.{ℕ, ◌+◌, ◌-◌, ◌*◌, ◌/◌, ◌&&◌, not, Bool, List, [], ◌∷◌, ◌++◌, length, replicate, codes}
+use Rattle.std.specs.Prelude.{if◌then◌else◌}
 use Rattle.std.specs.List.{list_any, filter, flat_map, count_by}
 use Rattle.std.specs.Int.{w32, w64, to_le_bytes}
 use Rattle.serde_json.specs.Data.{Data, array, object, Members, no_members, member}
@@ -47,12 +48,14 @@ binary s = stream_bytes (streams s)
 -- ---- the JSON part: members in the order of their names
 
 abbrev pub view_value : ℕ → ℕ → Data
-view_value offset size = object (member (codes "buffer") (whole_number 0) (member (codes "byteLength") (whole_number size) (member (codes "byteOffset") (whole_number offset) no_members)))
+view_value offset size = object (member (codes "buffer") (whole_number 0) (member (codes "byteLength")
+    (whole_number size) (member (codes "byteOffset") (whole_number offset) no_members)))
 
 -- a view of each bitstream, of which the first begins at `offset`
 abbrev pub view_values : ℕ → List (List Bool) → List Data
 view_values offset [] = []
-view_values offset (bits ∷ bitstreams) = view_value offset (bytes_filled (length bits)) ∷ view_values (offset + aligned (bytes_filled (length bits))) bitstreams
+view_values offset (bits ∷ bitstreams) = view_value offset (bytes_filled (length bits)) ∷ view_values
+    (offset + aligned (bytes_filled (length bits))) bitstreams
 
 -- one buffer, where there is a view
 abbrev pub buffer_values : ℕ → List Data → List Data
@@ -63,16 +66,19 @@ abbrev pub constant_value : Bool → Data
 constant_value bit = object (member (codes "constant") (whole_number (if bit then 1 else 0)) no_members)
 
 abbrev pub stream_value : ℕ → ℕ → Data
-stream_value ones view = object (member (codes "availableCount") (whole_number ones) (member (codes "bitstream") (whole_number view) no_members))
+stream_value ones view = object (member (codes "availableCount") (whole_number ones)
+    (member (codes "bitstream") (whole_number view) no_members))
 
 -- `view` is the number of its view, where it has one
 abbrev pub availability_value : ℕ → List Bool → Data
-availability_value view bits = if is_mixed bits then stream_value (count_by (λ bit. bit) bits) view else constant_value (has_one bits)
+availability_value view bits = if is_mixed bits then stream_value (count_by
+    (λ bit. bit) bits) view else constant_value (has_one bits)
 
 -- views are numbered in the order of the availabilities, here from `view` on
 abbrev pub availability_values : ℕ → List (List Bool) → List Data
 availability_values view [] = []
-availability_values view (bits ∷ rest) = availability_value view bits ∷ availability_values (view + length (streams_of (bits ∷ []))) rest
+availability_values view (bits ∷ rest) = availability_value view bits ∷ availability_values
+    (view + length (streams_of (bits ∷ []))) rest
 
 -- a member that is a list, and isn't there where the list is empty
 abbrev pub list_member : List ℕ → List Data → Members → Members
@@ -100,7 +106,8 @@ json_value s = file_value
 
 -- the two parts behind a header of 24 bytes
 abbrev pub file_of : List ℕ → List ℕ → List ℕ
-file_of json bytes = codes "subt" ++ to_le_bytes w32 1 ++ to_le_bytes w64 (length json) ++ to_le_bytes w64 (length bytes) ++ json ++ bytes
+file_of json bytes = codes "subt" ++ to_le_bytes w32 1 ++ to_le_bytes w64 (length json)
+    ++ to_le_bytes w64 (length bytes) ++ json ++ bytes
 
 -- JSON is filled up by spaces
 abbrev pub json_part : Subtree → List ℕ

@@ -8,8 +8,10 @@ use Rattle.subtree_write.specs.Canonical.{canonical}
 
 -- for a layout that the subtree is of, its canonical file has no fault, and holds the subtree with all its bits
 abbrev pub CanonicalFilesReadBack : Type 0
-CanonicalFilesReadBack = (layout : Layout) (s : Subtree) → IsSubtree s → IsOf layout s → KeepsRules s → subtree_of layout s.root (canonical s) ≡ Ok s
+CanonicalFilesReadBack = (layout : Layout) (s : Subtree) → IsSubtree s → IsOf layout s → KeepsRules s
+    → subtree_of layout s.root (canonical s) ≡ Ok s
 
 -- it is no longer than a file may be, so it is good where it stands as the file of the subtree's root
 abbrev pub CanonicalFilesAreGood : Type 0
-CanonicalFilesAreGood = (layout : Layout) (s : Subtree) → IsSubtree s → IsOf layout s → KeepsRules s → outcome_in layout s.root (Some (canonical s)) ≡ good (bits_of s)
+CanonicalFilesAreGood = (layout : Layout) (s : Subtree) → IsSubtree s → IsOf layout s → KeepsRules s
+    → outcome_in layout s.root (Some (canonical s)) ≡ good (bits_of s)

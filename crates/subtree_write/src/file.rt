@@ -11,8 +11,8 @@ use serde_json::Value;
 use std::alloc::{AllocError, Global};
 
 /// Appends the canonical file of a subtree (OGC 22-025r4, subtree binary format, subtree JSON format). It reads back as
-/// the subtree where that breaks no rule between its bits, as `Subtree::check` finds: `file_laws` says so. An Err, which
-/// comes of memory alone, leaves `out` as it was.
+/// the subtree where that breaks no rule between its bits, as `Subtree::check` finds: `file_laws` says so. An Err,
+/// which comes of memory alone, leaves `out` as it was.
 pub fn encode(alloc: Global, subtree: &Subtree, out: &mut Vec<u8>) -> Result<(), AllocError>
     ensures ok { OnOk result (out.new.items ≡ out.old.items ++ canonical subtree.now) }
     ensures err { OnErr result (out.new.items ≡ out.old.items) }
@@ -34,7 +34,8 @@ pub fn encode(alloc: Global, subtree: &Subtree, out: &mut Vec<u8>) -> Result<(),
 
 // The text of a value, filled up by spaces.
 fn padded_text(alloc: Global, value: &Value) -> Result<Vec<u8>, AllocError>
-    ensures { IfOk result (λ text. has_float (view value.now) ≡ false → text.items ≡ padded 32 (compact_text (view value.now))) }
+    ensures { IfOk result (λ text. has_float (view value.now) ≡ false
+        → text.items ≡ padded 32 (compact_text (view value.now))) }
 {
     let mut text = value.to_vec(alloc)?;
     let size = text.len();

@@ -53,7 +53,8 @@ impl Streams {
         alloc: Global,
         availabilities: &[Bits],
     ) -> Result<Vec<Value>, AllocError>
-        ensures values { IfOk result (λ values. map view values.items ≡ availability_values (length self.old.views.items) availabilities.now) }
+        ensures values { IfOk result
+            (λ values. map view values.items ≡ availability_values (length self.old.views.items) availabilities.now) }
         ensures added { OnOk result (Adds self.old self.new availabilities.now) }
     {
         let mut values = Vec::new(alloc);

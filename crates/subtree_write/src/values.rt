@@ -1,7 +1,9 @@
 // The JSON values of a subtree file.
 ghost use Rattle.std.specs.Prelude.{◌≡◌, IfOk, OnOk, map};
 ghost use Rattle.serde_json.specs.View.{view, members_view};
-ghost use Rattle.subtree_write.specs.Canonical.{view_value as view_value_of, buffer_values, constant_value as constant_value_of, stream_value as stream_value_of, file_value};
+ghost use Rattle.subtree_write.specs.Canonical.{view_value as view_value_of, buffer_values};
+ghost use Rattle.subtree_write.specs.Canonical.{constant_value as constant_value_of, stream_value as stream_value_of};
+ghost use Rattle.subtree_write.specs.Canonical.{file_value};
 ghost use Rattle.subtree_write.specs.Members.{with_list};
 
 use serde_json::{Map, Value, put};
@@ -57,7 +59,8 @@ fn put_list(
     name: &str,
     values: Vec<Value>,
 ) -> Result<(), AllocError>
-    ensures { OnOk result (members_view members.new.entries ≡ with_list name.now (map view values.items) (members_view members.old.entries)) }
+    ensures { OnOk result (members_view members.new.entries ≡ with_list name.now (map view values.items)
+        (members_view members.old.entries)) }
 {
     if values.is_empty() {
         return Ok(());
@@ -74,7 +77,9 @@ pub(crate) fn json_value(
     contents: Vec<Value>,
     child: Value,
 ) -> Result<Value, AllocError>
-    ensures { IfOk result (λ value. view value ≡ file_value (map view views.items) size (view tiles) (map view contents.items) (view child)) }
+    ensures { IfOk result
+        (λ value. view value ≡ file_value (map view views.items) size (view tiles) (map view contents.items)
+        (view child)) }
 {
     let buffers = buffers(alloc, size, &views)?;
     let mut members = Map::new(alloc);

@@ -3,7 +3,8 @@ ghost use Rattle.std.specs.Prelude.{◌≡◌, ◌++◌, ◌<◌, ◌≤◌, ℕ
 ghost use Rattle.std.specs.List.{All};
 ghost use Rattle.implicit_tiling.specs.Code.{IsWord};
 ghost use Rattle.implicit_tiling.specs.Limits.{most_contents};
-ghost use Rattle.build_laws.specs.Made.{tile_in, child_bits as child_bits_of, child_place as child_place_of, has_content};
+ghost use Rattle.build_laws.specs.Made.{tile_in, child_bits as child_bits_of, child_place as child_place_of};
+ghost use Rattle.build_laws.specs.Made.{has_content};
 ghost use Rattle.implicit_tiling.specs.Availability.{place};
 ghost use Rattle.implicit_tiling.specs.Subtree.{node_count};
 ghost use Rattle.bitstream.specs.Bits.{bits_of_places};
@@ -46,7 +47,8 @@ fn node_place(layout: &Layout, word: Word) -> u64
 // A bit for each node of a subtree: those at the places are 1 (OGC 22-025r4, tile availability).
 pub(crate) fn node_bits(alloc: Global, layout: &Layout, places: &[u64]) -> Result<Bits, AllocError>
     requires { All (λ p. p < node_count layout.now.scheme layout.now.subtree_levels) places.now }
-    ensures { IfOk result (λ bits. bits ≡ bits_of_places (node_count layout.now.scheme layout.now.subtree_levels) places.now) }
+    ensures { IfOk result
+        (λ bits. bits ≡ bits_of_places (node_count layout.now.scheme layout.now.subtree_levels) places.now) }
 {
     Bits::of_places(
         alloc,
@@ -80,8 +82,8 @@ fn child_place(layout: &Layout, root: Word) -> u64
     index_of(layout.scheme, &tile) % nodes_at(layout.scheme, layout.subtree_levels)
 }
 
-// The bits of each content: one bit for each node of a subtree, which is 1 where a word with the content has its place there
-// (OGC 22-025r4, content availability).
+// The bits of each content: one bit for each node of a subtree, which is 1 where a word with the content has its
+// place there (OGC 22-025r4, content availability).
 pub(crate) fn content_bits(
     alloc: Global,
     layout: &Layout,
@@ -109,7 +111,8 @@ fn append_held(
     held: &mut Vec<u64>,
 ) -> Result<(), AllocError>
     requires { content < most_contents }
-    ensures { (place : ℕ → ℕ) → places.now ≡ map place words.now → OnOk result (held.new.items ≡ held.old.items ++ map place (filter (has_content content) words.now)) }
+    ensures { (place : ℕ → ℕ) → places.now ≡ map place words.now
+        → OnOk result (held.new.items ≡ held.old.items ++ map place (filter (has_content content) words.now)) }
 {
     for (word, place) in words.iter().zip(places) {
         if mask_of(*word) >> content & 1 == 1 {

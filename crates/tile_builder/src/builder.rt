@@ -53,9 +53,9 @@ impl From<AllocError> for BuildStop {
 /// contents. An occupancy of no tiles has the file of the root alone. After a stop the files before the one at which it
 /// stopped were put, and no later one.
 ///
-/// The occupancy has the scheme and the levels of the layout, its masks name contents of the layout alone, and the names
-/// of the files differ. For each level of a subtree its tiles are found in as many steps as the number of tiles has binary
-/// digits.
+/// The occupancy has the scheme and the levels of the layout, its masks name contents of the layout alone, and the
+/// names of the files differ. For each level of a subtree its tiles are found in as many steps as the number of tiles
+/// has binary digits.
 pub fn build<K: FileKeeper>(
     alloc: Global,
     occupancy: &Occupancy,
@@ -66,11 +66,15 @@ pub fn build<K: FileKeeper>(
     requires levels { occupancy.now.levels ≡ layout.now.levels }
     requires masks { All (λ w. word_mask w < 2 ^ length layout.now.contents) occupancy.now.words }
     requires names { HasDistinctNames (made_files layout.now occupancy.now.words) }
-    ensures kept { IfOk result (λ built. IfTold (K.kept keeper.old) (K.kept keeper.new) (ArePut (made_files layout.now occupancy.now.words))) }
-    ensures holds { IfOk result (λ built. IfTold (K.kept keeper.old) (K.kept keeper.new) (λ before now. HoldsTiles (scene_of now layout.now) occupancy.now.words)) }
+    ensures kept { IfOk result
+        (λ built. IfTold (K.kept keeper.old) (K.kept keeper.new)
+        (ArePut (made_files layout.now occupancy.now.words))) }
+    ensures holds { IfOk result (λ built. IfTold (K.kept keeper.old) (K.kept keeper.new)
+        (λ before now. HoldsTiles (scene_of now layout.now) occupancy.now.words)) }
     ensures files { IfOk result (λ built. built.files ≡ length (made_roots layout.now occupancy.now.words)) }
     ensures tiles { IfOk result (λ built. built.tiles ≡ length occupancy.now.words) }
-    ensures stopped { IfErr result (λ stop. IfTold (K.kept keeper.old) (K.kept keeper.new) (λ before now. Stops (made_files layout.now occupancy.now.words) before now stop)) }
+    ensures stopped { IfErr result (λ stop. IfTold (K.kept keeper.old) (K.kept keeper.new)
+        (λ before now. Stops (made_files layout.now occupancy.now.words) before now stop)) }
     ensures failed { result ≡ Err BuildStop.Failed → Rose (K.faults keeper.old) (K.faults keeper.new) }
     ensures later { K.faults keeper.old ≤ K.faults keeper.new }
 {
@@ -92,9 +96,11 @@ fn put_files<K: FileKeeper>(
 ) -> Result<u64, BuildStop>
     requires words { AreWordsOf layout.now words.now }
     requires names { HasDistinctNames (made_files layout.now words.now) }
-    ensures kept { IfOk result (λ files. IfTold (K.kept keeper.old) (K.kept keeper.new) (ArePut (made_files layout.now words.now))) }
+    ensures kept { IfOk result
+        (λ files. IfTold (K.kept keeper.old) (K.kept keeper.new) (ArePut (made_files layout.now words.now))) }
     ensures files { IfOk result (λ files. files ≡ length (made_roots layout.now words.now)) }
-    ensures stopped { IfErr result (λ stop. IfTold (K.kept keeper.old) (K.kept keeper.new) (λ before now. Stops (made_files layout.now words.now) before now stop)) }
+    ensures stopped { IfErr result (λ stop. IfTold (K.kept keeper.old) (K.kept keeper.new)
+        (λ before now. Stops (made_files layout.now words.now) before now stop)) }
     ensures failed { result ≡ Err BuildStop.Failed → Rose (K.faults keeper.old) (K.faults keeper.new) }
     ensures later { K.faults keeper.old ≤ K.faults keeper.new }
 {
@@ -125,8 +131,11 @@ fn put_file<K: FileKeeper>(
 ) -> Result<(), BuildStop>
     requires words { AreWordsOf layout.now words.now }
     requires root { IsRootOf layout.now root }
-    ensures kept { OnOk result (PutsKnown (subtree_name layout.now root) (canonical (made_subtree layout.now words.now root)) (K.kept keeper.old) (K.kept keeper.new) Put.Kept) }
-    ensures stopped { IfErr result (λ stop. PutsKnown (subtree_name layout.now root) (canonical (made_subtree layout.now words.now root)) (K.kept keeper.old) (K.kept keeper.new) (put_of stop)) }
+    ensures kept { OnOk result (PutsKnown (subtree_name layout.now root)
+        (canonical (made_subtree layout.now words.now root)) (K.kept keeper.old) (K.kept keeper.new) Put.Kept) }
+    ensures stopped { IfErr result
+        (λ stop. PutsKnown (subtree_name layout.now root) (canonical (made_subtree layout.now words.now root))
+        (K.kept keeper.old) (K.kept keeper.new) (put_of stop)) }
     ensures failed { result ≡ Err BuildStop.Failed → Rose (K.faults keeper.old) (K.faults keeper.new) }
     ensures later { K.faults keeper.old ≤ K.faults keeper.new }
 {

@@ -1,5 +1,5 @@
-//! From tiles to files: `build` puts the subtree files of an occupancy into a keeper, one of them in memory at a time. It
-//! takes any list of tiles; which lists are generated from a few numbers is the matter of `tileset_make`.
+//! From tiles to files: `build` puts the subtree files of an occupancy into a keeper, one of them in memory at a
+//! time. It takes any list of tiles; which lists are generated from a few numbers is the matter of `tileset_make`.
 #![tactic(auto)]
 
 mod bits;

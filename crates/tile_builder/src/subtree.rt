@@ -13,8 +13,8 @@ use std::alloc::{AllocError, Global};
 use tile_coords::{Tile, Word};
 use tileset_json::Layout;
 
-// The subtree that begins with a root, of the tiles of some words: the tiles in it, their contents, and the subtrees right
-// below it (OGC 22-025r4, implicit tiling: subtrees).
+// The subtree that begins with a root, of the tiles of some words: the tiles in it, their contents, and the subtrees
+// right below it (OGC 22-025r4, implicit tiling: subtrees).
 pub(crate) fn made_subtree(
     alloc: Global,
     layout: &Layout,

@@ -1,5 +1,5 @@
-// What no clause says: each call succeeds with ample memory, and the worked files have the bytes that they were worked out
-// to have.
+// What no clause says: each call succeeds with ample memory, and the worked files have the bytes that they were
+// worked out to have.
 ghost use Rattle.std.specs.Prelude.{◌≡◌, ◌∷◌, [], IfOk, codes};
 
 use crate::{BuildStop, Built, Occupancy, build};
@@ -30,7 +30,15 @@ const LEAF_JSON: &str =
 
 // Three levels, two of them in a subtree, and one content.
 fn layout(alloc: Global) -> Result<Layout, Fail>
-    ensures { IfOk result (λ l. l ≡ record { scheme = Scheme.Quad; subtree_levels = 2; levels = 3; subtree = codes "s.{level}.{x}.{y}.subtree"; contents = codes "c0.{level}.{x}.{y}.glb" ∷ [] }) }
+    ensures { IfOk result
+        (λ l. l ≡ record {
+          scheme = Scheme.Quad;
+          subtree_levels = 2;
+          levels = 3;
+          subtree = codes
+              "s.{level}.{x}.{y}.subtree";
+          contents = codes "c0.{level}.{x}.{y}.glb" ∷ [];
+        }) }
 {
     let mut contents = Vec::new(alloc);
     contents.push(Template::new(String::from_str(alloc, "c0.{level}.{x}.{y}.glb")?)?)?;

@@ -52,7 +52,8 @@ impl Region {
         hi: [u32; 3],
     ) -> Result<Region, RegionFault>
         requires levels { levels ≤ 32 }
-        requires flat { (slice_index lo 2 ≡ depth_of scheme (slice_index lo 2)) × (slice_index hi 2 ≡ depth_of scheme (slice_index hi 2)) }
+        requires flat { (slice_index lo 2 ≡ depth_of scheme (slice_index lo 2))
+            × (slice_index hi 2 ≡ depth_of scheme (slice_index hi 2)) }
         ensures { with_fault_number result ≡ region_of levels level lo hi }
     {
         let _ = scheme;

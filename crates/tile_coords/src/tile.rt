@@ -45,7 +45,8 @@ impl Tile {
     /// more, or a quadtree has a `z` other than 0.
     pub fn new(scheme: Scheme, level: u32, x: u32, y: u32, z: u32) -> Option<Tile>
         ensures tile { IfSome result (λ t. t ≡ record { level = level; x = x; y = y; z = z }) }
-        ensures accepted { IsSome result ↔ ((level ≤ 31) × IsTile scheme (record { level = level; x = x; y = y; z = z })) }
+        ensures accepted { IsSome result
+            ↔ ((level ≤ 31) × IsTile scheme (record { level = level; x = x; y = y; z = z })) }
     {
         if level > 31 {
             return None;

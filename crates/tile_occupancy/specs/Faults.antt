@@ -9,4 +9,5 @@ use Rattle.tile_occupancy.specs.declared.occupancy.OccupancyFault.TheVariants.{B
 abbrev pub IsFirstFault : Scheme → ℕ → List ℕ → OccupancyFault → Type 0
 IsFirstFault scheme levels words BadWord = AreWordsBelow scheme levels words → ⊥
 IsFirstFault scheme levels words Order = AreWordsBelow scheme levels words × (KeysRise scheme words → ⊥)
-IsFirstFault scheme levels words ParentMissing = AreWordsBelow scheme levels words × KeysRise scheme words × (HaveParents scheme words → ⊥)
+IsFirstFault scheme levels words ParentMissing = AreWordsBelow scheme levels words × KeysRise scheme words
+    × (HaveParents scheme words → ⊥)

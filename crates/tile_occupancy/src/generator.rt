@@ -4,7 +4,8 @@ ghost use Rattle.std.specs.List.{All};
 ghost use Rattle.implicit_tiling.specs.Code.{word_mask};
 ghost use Rattle.implicit_tiling.specs.Limits.{most_levels, most_contents};
 ghost use Rattle.implicit_tiling.specs.Tile.{IsTile, ancestor as ancestor_of};
-ghost use Rattle.tile_occupancy.specs.Generated.{AreGenerated, HasLines, generated_words, line_words, point as point_of, generated_mask};
+ghost use Rattle.tile_occupancy.specs.Generated.{AreGenerated, HasLines, generated_words, line_words};
+ghost use Rattle.tile_occupancy.specs.Generated.{point as point_of, generated_mask};
 
 use crate::occupancy::Occupancy;
 use std::alloc::{AllocError, Global};
@@ -82,7 +83,8 @@ fn append_line(
     requires contents { contents ≤ most_contents }
     requires within { tile.now.level < most_levels scheme }
     requires tile { IsTile scheme tile.now }
-    ensures { IfOk result (λ done. out.new.items ≡ out.old.items ++ line_words scheme (tile.now.level + 1) contents tile.now) }
+    ensures { IfOk result
+        (λ done. out.new.items ≡ out.old.items ++ line_words scheme (tile.now.level + 1) contents tile.now) }
 {
     for up in 0..tile.level + 1 {
         let above = ancestor(tile, up);

@@ -1,5 +1,5 @@
-//! The tiles that a tileset is made of: `Occupancy` takes a list of words in key order in which each tile's parent stands,
-//! or refuses it by its first fault; `generate` makes such lists for tests and times.
+//! The tiles that a tileset is made of: `Occupancy` takes a list of words in key order in which each tile's parent
+//! stands, or refuses it by its first fault; `generate` makes such lists for tests and times.
 #![tactic(auto)]
 
 mod checks;

@@ -28,7 +28,8 @@ pub record HasParts (scheme : Scheme) (t : Tile) (m w : ℕ) : Type 0 where
   pub mask : word_mask w ≡ m
 
 abbrev pub WordsHaveTheirParts : Type 0
-WordsHaveTheirParts = (scheme : Scheme) (t : Tile) (mask : ℕ) → HasWord scheme t → mask < 2 ^ 8 → HasParts scheme t mask (word scheme t mask)
+WordsHaveTheirParts = (scheme : Scheme) (t : Tile) (mask : ℕ) → HasWord scheme t → mask < 2 ^ 8
+    → HasParts scheme t mask (word scheme t mask)
 
 -- what is a word is that of its own tile and mask
 pub record IsOfItsParts (scheme : Scheme) (w : ℕ) : Type 0 where

@@ -1,5 +1,5 @@
-//! Tiles as words: a word has a tile's level, a mask of its contents and its Morton index, in the order of keys. No other
-//! crate computes with the parts of a word.
+//! Tiles as words: a word has a tile's level, a mask of its contents and its Morton index, in the order of keys. No
+//! other crate computes with the parts of a word.
 #![tactic(auto)]
 
 mod index;

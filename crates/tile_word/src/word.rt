@@ -3,7 +3,8 @@ ghost use Rattle.std.specs.Prelude.{◌≡◌, ◌+◌, ◌*◌, ◌^◌, ◌<�
 ghost use Rattle.std.specs.Bool.{Decides};
 ghost use Rattle.implicit_tiling.specs.Limits.{most_levels};
 ghost use Rattle.implicit_tiling.specs.Tile.{IsTile};
-ghost use Rattle.implicit_tiling.specs.Code.{level_place, mask_place, word as word_for, word_tile as word_tile_of, word_mask, word_level, word_index, IsWord};
+ghost use Rattle.implicit_tiling.specs.Code.{level_place, mask_place, word as word_for, word_tile as word_tile_of};
+ghost use Rattle.implicit_tiling.specs.Code.{word_mask, word_level, word_index, IsWord};
 ghost use Rattle.tile_word.specs.Words.{word_key, IsFurther};
 
 use crate::index::{index_of, nodes_at, tile_at};
@@ -43,8 +44,8 @@ pub fn word_at(level: u32, index: u64, mask: u8) -> Word
     u64::from(level) << LEVEL_PLACE | u64::from(mask) << MASK_PLACE | index
 }
 
-/// The word `count` places further than another one: of the same level and mask, as long as there is such an index. Behind
-/// the last index it is above all words of the level and the mask.
+/// The word `count` places further than another one: of the same level and mask, as long as there is such an index.
+/// Behind the last index it is above all words of the level and the mask.
 #[inline]
 pub fn word_after(word: Word, count: u64) -> Word
     requires index { word_index word + count ≤ 2 ^ mask_place }

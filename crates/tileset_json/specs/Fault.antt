@@ -1,7 +1,10 @@
 -- For proofs and inner functions: the numbers of the faults of `tileset.json` that its bytes show (this project's own).
 use Rattle.std.specs.Prelude.{ℕ}
 use Rattle.tileset_json.specs.declared.fault.TilesetFault.{TilesetFault}
-use Rattle.tileset_json.specs.declared.fault.TilesetFault.TheVariants.{BadJson, NotObject, NoImplicit, BadScheme, BadSubtreeLevels, BadAvailableLevels, BadSubtreeTemplate, BothContents, BadContent, TooManyContents}
+use Rattle.tileset_json.specs.declared.fault.TilesetFault.TheVariants.{BadJson, NotObject, NoImplicit, BadScheme}
+use Rattle.tileset_json.specs.declared.fault.TilesetFault.TheVariants.{BadSubtreeLevels, BadAvailableLevels}
+use Rattle.tileset_json.specs.declared.fault.TilesetFault.TheVariants.{BadSubtreeTemplate, BothContents, BadContent}
+use Rattle.tileset_json.specs.declared.fault.TilesetFault.TheVariants.{TooManyContents}
 
 abbrev pub tileset_fault_number : TilesetFault → ℕ
 tileset_fault_number BadJson = 3

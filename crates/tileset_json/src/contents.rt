@@ -38,7 +38,8 @@ pub(crate) fn read_contents(
 }
 
 fn read_one(alloc: Global, content: &Value) -> Result<Option<Vec<Template>>, AllocError>
-    ensures { IfOk result (λ found. option_map (λ v. v.items) found ≡ option_map (λ t. t ∷ []) (template_of (view content.now))) }
+    ensures { IfOk result (λ found. option_map (λ v. v.items) found ≡ option_map
+        (λ t. t ∷ []) (template_of (view content.now))) }
 {
     let Some(template) = read_template(alloc, content)? else {
         return Ok(None);
@@ -49,7 +50,8 @@ fn read_one(alloc: Global, content: &Value) -> Result<Option<Vec<Template>>, All
 }
 
 fn read_list(alloc: Global, list: &Value) -> Result<Option<Vec<Template>>, AllocError>
-    ensures { IfOk result (λ found. option_map (λ v. v.items) found ≡ option_and_then (λ items. templates_of (list_of items)) (as_array (view list.now))) }
+    ensures { IfOk result (λ found. option_map (λ v. v.items) found ≡ option_and_then
+        (λ items. templates_of (list_of items)) (as_array (view list.now))) }
 {
     let Some(values) = list.as_array() else {
         return Ok(None);

@@ -38,9 +38,23 @@ impl Model for Layout {
 
     ghost Value = { layout };
 
-    ghost view = { λ l. record { scheme = l.scheme; subtree_levels = l.subtree_levels; levels = l.levels; subtree = l.subtree; contents = l.contents.items } };
+    ghost view = { λ l. record {
+      scheme = l.scheme;
+      subtree_levels = l.subtree_levels;
+      levels = l.levels;
+      subtree =
+          l.subtree;
+      contents = l.contents.items;
+    } };
 
-    ghost invariant = { λ l. IsWithinLimits (record { scheme = l.scheme; subtree_levels = l.subtree_levels; levels = l.levels; subtree = l.subtree; contents = l.contents.items }) };
+    ghost invariant = { λ l. IsWithinLimits
+        (record {
+          scheme = l.scheme;
+          subtree_levels = l.subtree_levels;
+          levels = l.levels;
+          subtree = l.subtree;
+          contents = l.contents.items;
+        }) };
 }
 
 impl Layout {

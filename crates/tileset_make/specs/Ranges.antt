@@ -23,9 +23,11 @@ is_up_to most n = nat_le 1 n && nat_le n most
 
 abbrev pub is_in_range : Scheme → ℕ → ℕ → ℕ → ℕ → Bool
 is_in_range scheme levels subtree_levels contents points =
-    is_up_to (most_levels scheme) levels && is_up_to (most_subtree_levels scheme) subtree_levels && nat_le contents most_contents && is_up_to most_points points
+    is_up_to (most_levels scheme) levels && is_up_to (most_subtree_levels scheme) subtree_levels
+    && nat_le contents most_contents && is_up_to most_points points
 
-pub IsInRange-from_test : (scheme : Scheme) (levels subtree_levels contents points : ℕ) → is_in_range scheme levels subtree_levels contents points ≡ true
+pub IsInRange-from_test : (scheme : Scheme) (levels subtree_levels contents points : ℕ)
+    → is_in_range scheme levels subtree_levels contents points ≡ true
     → IsInRange scheme levels subtree_levels contents points
 IsInRange-from_test scheme levels subtree_levels contents points inside =
     let all = and_parts _ _ inside in

@@ -21,7 +21,21 @@ impl Model for Survey {
 
     ghost Value = { Found };
 
-    ghost view = { λ s. record { files = s.files; tiles = s.tiles; listed = s.listed; contents = s.contents; more = s.more } };
+    ghost view = { λ s. record {
+      files = s.files;
+      tiles = s.tiles;
+      listed = s.listed;
+      contents = s.contents;
+      more =
+          s.more;
+    } };
 
-    ghost inverse = { λ v. record { files = v.files; tiles = v.tiles; listed = v.listed; contents = v.contents; more = v.more } };
+    ghost inverse = { λ v. record {
+      files = v.files;
+      tiles = v.tiles;
+      listed = v.listed;
+      contents = v.contents;
+      more =
+          v.more;
+    } };
 }

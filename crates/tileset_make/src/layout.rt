@@ -3,7 +3,9 @@ ghost use Rattle.std.specs.Prelude.{◌≡◌, ◌≤◌, ◌<◌, ◌++◌, cod
 ghost use Rattle.std.specs.Fmt.{decimal};
 ghost use Rattle.implicit_tiling.specs.Limits.{most_contents};
 ghost use Rattle.implicit_tiling.specs.Template.{is_template};
-ghost use Rattle.tileset_make.specs.Recipes.{recipe_layout, subtree_template as subtree_template_of, content_template as content_template_of, content_end as content_end_of, content_templates as content_templates_of};
+ghost use Rattle.tileset_make.specs.Recipes.{recipe_layout, subtree_template as subtree_template_of};
+ghost use Rattle.tileset_make.specs.Recipes.{content_template as content_template_of, content_end as content_end_of};
+ghost use Rattle.tileset_make.specs.Recipes.{content_templates as content_templates_of};
 
 use crate::recipe::Recipe;
 use std::alloc::{AllocError, Global};

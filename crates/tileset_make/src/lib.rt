@@ -1,5 +1,6 @@
-//! From a few numbers to a tileset, for tests and times: a recipe names the tiles to generate, `make` puts all files of their
-//! tileset through `tile_builder`, `tileset.json` as the last, and `survey` makes them in memory and walks them.
+//! From a few numbers to a tileset, for tests and times: a recipe names the tiles to generate, `make` puts all files
+//! of their tileset through `tile_builder`, `tileset.json` as the last, and `survey` makes them in memory and walks
+//! them.
 #![tactic(auto)]
 
 mod found;

@@ -18,8 +18,8 @@ use crate::recipe::Recipe;
 use framed_walk::framed;
 use scene_ports::{FileSource, SureFiles, SureKeeper};
 use std::alloc::{AllocError, Global};
-use tile_builder::{BuildStop, Built};
 use subtree_outcome::WalkStop;
+use tile_builder::{BuildStop, Built};
 use tile_coords::{WalkEnd, Word};
 use tile_walk::whole_plan;
 use tile_word::mask_of;
@@ -49,7 +49,8 @@ fn made_in_memory(alloc: Global, recipe: &Recipe) -> Result<(Built, SureFiles), 
     ensures files { IfOk result (λ made. made.0.files ≡ length (recipe_files recipe.now)) }
     ensures tiles { IfOk result (λ made. made.0.tiles ≡ length (recipe_words recipe.now)) }
     ensures told { IfOk result (λ made. IsSome (⟦<SureFiles as FileSource>⟧.told made.1)) }
-    ensures holds { IfOk result (λ made. IfSome (⟦<SureFiles as FileSource>⟧.told made.1) (λ all. HoldsTiles (scene_of all (recipe_layout recipe.now)) (recipe_words recipe.now))) }
+    ensures holds { IfOk result (λ made. IfSome (⟦<SureFiles as FileSource>⟧.told made.1)
+        (λ all. HoldsTiles (scene_of all (recipe_layout recipe.now)) (recipe_words recipe.now))) }
     ensures whole { IfOk result (λ made. IsOccupancy recipe.now.scheme recipe.now.levels (recipe_words recipe.now)) }
 {
     let mut keeper = SureKeeper::new(alloc);
@@ -70,7 +71,9 @@ fn all_words(
     files: &mut SureFiles,
     layout: &Layout,
 ) -> Result<(Vec<Word>, WalkEnd), AllocError>
-    ensures answer { IfOk result (λ found. IfSome (⟦<SureFiles as FileSource>⟧.told files.old) (λ all. IsAnswer (scene_of all layout.now) (whole layout.now.scheme layout.now.levels) found.0.items found.1)) }
+    ensures answer { IfOk result (λ found. IfSome (⟦<SureFiles as FileSource>⟧.told files.old)
+        (λ all. IsAnswer (scene_of all layout.now) (whole layout.now.scheme layout.now.levels) found.0.items
+        found.1)) }
     ensures found { IfOk result (λ found. AreFound layout.now.scheme found.0.items) }
 {
     let mut words = Vec::new(alloc);

@@ -18,8 +18,8 @@ use std::alloc::Global;
 use tile_builder::{BuildStop, Built, Occupancy, build, layout_text};
 use tileset_json::Layout;
 
-// Puts the files of a layout and tiles: the subtree files, and `tileset.json` as the last, whose name is that of none of
-// them. After a stop the files before the one at which it stopped were put, and no later one.
+// Puts the files of a layout and tiles: the subtree files, and `tileset.json` as the last, whose name is that of none
+// of them. After a stop the files before the one at which it stopped were put, and no later one.
 pub(crate) fn put_tileset<K: FileKeeper>(
     alloc: Global,
     occupancy: &Occupancy,
@@ -32,12 +32,17 @@ pub(crate) fn put_tileset<K: FileKeeper>(
     requires names { HasDistinctNames (made_files layout.now occupancy.now.words) }
     requires apart { (t : Tile) → subtree_name layout.now t ≢ codes "tileset.json" }
     requires layout { IsLayout layout.now }
-    ensures kept { IfOk result (λ built. IfTold (K.kept keeper.old) (K.kept keeper.new) (ArePut (tileset_files layout.now occupancy.now.words))) }
-    ensures layout { IfOk result (λ built. IfTold (K.kept keeper.old) (K.kept keeper.new) (λ before now. layout_in now ≡ Ok layout.now)) }
-    ensures holds { IfOk result (λ built. IfTold (K.kept keeper.old) (K.kept keeper.new) (λ before now. HoldsTiles (scene_of now layout.now) occupancy.now.words)) }
+    ensures kept { IfOk result
+        (λ built. IfTold (K.kept keeper.old) (K.kept keeper.new)
+        (ArePut (tileset_files layout.now occupancy.now.words))) }
+    ensures layout { IfOk result (λ built. IfTold (K.kept keeper.old) (K.kept keeper.new)
+        (λ before now. layout_in now ≡ Ok layout.now)) }
+    ensures holds { IfOk result (λ built. IfTold (K.kept keeper.old) (K.kept keeper.new)
+        (λ before now. HoldsTiles (scene_of now layout.now) occupancy.now.words)) }
     ensures files { IfOk result (λ built. built.files ≡ length (tileset_files layout.now occupancy.now.words)) }
     ensures tiles { IfOk result (λ built. built.tiles ≡ length occupancy.now.words) }
-    ensures stopped { IfErr result (λ stop. IfTold (K.kept keeper.old) (K.kept keeper.new) (λ before now. Stops (tileset_files layout.now occupancy.now.words) before now stop)) }
+    ensures stopped { IfErr result (λ stop. IfTold (K.kept keeper.old) (K.kept keeper.new)
+        (λ before now. Stops (tileset_files layout.now occupancy.now.words) before now stop)) }
     ensures failed { result ≡ Err BuildStop.Failed → Rose (K.faults keeper.old) (K.faults keeper.new) }
     ensures later { K.faults keeper.old ≤ K.faults keeper.new }
 {
@@ -57,8 +62,10 @@ fn put_layout<K: FileKeeper>(
     layout: &Layout,
     keeper: &mut K,
 ) -> Result<(), BuildStop>
-    ensures put { OnOk result (PutsKnown (codes "tileset.json") (text_of layout.now) (K.kept keeper.old) (K.kept keeper.new) Put.Kept) }
-    ensures others { result ≡ Err BuildStop.Failed → PutsKnown (codes "tileset.json") (text_of layout.now) (K.kept keeper.old) (K.kept keeper.new) Put.Failed }
+    ensures put { OnOk result (PutsKnown (codes "tileset.json") (text_of layout.now) (K.kept keeper.old)
+        (K.kept keeper.new) Put.Kept) }
+    ensures others { result ≡ Err BuildStop.Failed
+        → PutsKnown (codes "tileset.json") (text_of layout.now) (K.kept keeper.old) (K.kept keeper.new) Put.Failed }
     ensures same { result ≡ Err BuildStop.Memory → K.kept keeper.new ≡ K.kept keeper.old }
     ensures failed { result ≡ Err BuildStop.Failed → Rose (K.faults keeper.old) (K.faults keeper.new) }
     ensures later { K.faults keeper.old ≤ K.faults keeper.new }

@@ -9,7 +9,8 @@ use Rattle.tileset_write.specs.LayoutText.{uri_value}
 abbrev pub put_contents : List (List ℕ) → Members → Members
 put_contents [] members = members
 put_contents (template ∷ []) members = put (codes "content") (uri_value template) members
-put_contents (template ∷ next ∷ rest) members = put (codes "contents") (array (items_of (map uri_value (template ∷ next ∷ rest)))) members
+put_contents (template ∷ next ∷ rest) members = put (codes "contents")
+    (array (items_of (map uri_value (template ∷ next ∷ rest)))) members
 
 -- three numbers of the box
 abbrev pub row : ℕ → ℕ → ℕ → List Data

@@ -28,7 +28,8 @@ asset_value = object (member (codes "version") (string (codes "1.1")) no_members
 
 -- the unit box
 abbrev pub box_value : Data
-box_value = object (member (codes "box") (array (items_of (map whole_number (0 ∷ 0 ∷ 0 ∷ 1 ∷ 0 ∷ 0 ∷ 0 ∷ 1 ∷ 0 ∷ 0 ∷ 0 ∷ 1 ∷ [])))) no_members)
+box_value = object (member (codes "box")
+    (array (items_of (map whole_number (0 ∷ 0 ∷ 0 ∷ 1 ∷ 0 ∷ 0 ∷ 0 ∷ 1 ∷ 0 ∷ 0 ∷ 0 ∷ 1 ∷ [])))) no_members)
 
 abbrev pub implicit_value : Scheme → ℕ → ℕ → List ℕ → Data
 implicit_value scheme subtree_levels levels subtree = object
@@ -42,7 +43,8 @@ implicit_value scheme subtree_levels levels subtree = object
 abbrev pub with_contents : List (List ℕ) → Members → Members
 with_contents [] members = members
 with_contents (template ∷ []) members = member (codes "content") (uri_value template) members
-with_contents (template ∷ next ∷ rest) members = member (codes "contents") (array (items_of (map uri_value (template ∷ next ∷ rest)))) members
+with_contents (template ∷ next ∷ rest) members = member (codes "contents")
+    (array (items_of (map uri_value (template ∷ next ∷ rest)))) members
 
 abbrev pub root_value : List (List ℕ) → Data → Data
 root_value contents implicit = object
@@ -61,7 +63,8 @@ tileset_value root = object
     no_members)))
 
 abbrev pub layout_value : Layout → Data
-layout_value layout = tileset_value (root_value layout.contents (implicit_value layout.scheme layout.subtree_levels layout.levels layout.subtree))
+layout_value layout = tileset_value
+    (root_value layout.contents (implicit_value layout.scheme layout.subtree_levels layout.levels layout.subtree))
 
 abbrev pub layout_text : Layout → List ℕ
 layout_text layout = compact_text (layout_value layout)

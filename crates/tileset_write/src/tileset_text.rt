@@ -4,7 +4,11 @@ ghost use Rattle.std.specs.List.{All};
 ghost use Rattle.serde_json.specs.Data.{string};
 ghost use Rattle.serde_json.specs.View.{view, members_view};
 ghost use Rattle.implicit_tileset.specs.Tileset.{layout_of};
-ghost use Rattle.tileset_write.specs.LayoutText.{uri_value as uri_value_of, asset_value as asset_value_of, box_value as box_value_of, implicit_value as implicit_value_of, root_value as root_value_of, layout_value as layout_value_of, layout_text as layout_text_of, scheme_name as name_of, IsLayout, IsTemplateText};
+ghost use Rattle.tileset_write.specs.LayoutText.{uri_value as uri_value_of, asset_value as asset_value_of};
+ghost use Rattle.tileset_write.specs.LayoutText.{box_value as box_value_of, implicit_value as implicit_value_of};
+ghost use Rattle.tileset_write.specs.LayoutText.{root_value as root_value_of, layout_value as layout_value_of};
+ghost use Rattle.tileset_write.specs.LayoutText.{layout_text as layout_text_of, scheme_name as name_of, IsLayout};
+ghost use Rattle.tileset_write.specs.LayoutText.{IsTemplateText};
 ghost use Rattle.tileset_write.specs.LayoutMembers.{put_contents as with_contents, row};
 
 use serde_json::{Map, Value, put};
@@ -13,8 +17,8 @@ use tile_coords::Scheme;
 use tileset_json::Layout;
 use uri_template::Template;
 
-/// Appends the text of a `tileset.json` for a layout (OGC 22-025r4, implicit tiling: implicit root tile, subtrees), which
-/// states the layout without a fault. An Err, which comes of memory alone, leaves `out` as it was.
+/// Appends the text of a `tileset.json` for a layout (OGC 22-025r4, implicit tiling: implicit root tile, subtrees),
+/// which states the layout without a fault. An Err, which comes of memory alone, leaves `out` as it was.
 pub fn layout_text(alloc: Global, layout: &Layout, out: &mut Vec<u8>) -> Result<(), AllocError>
     ensures ok { OnOk result (out.new.items ≡ out.old.items ++ layout_text_of layout.now) }
     ensures stated { OnOk result (layout_of (layout_text_of layout.now) ≡ Ok layout.now) }
@@ -45,7 +49,9 @@ fn asset_value(alloc: Global) -> Result<Value, AllocError>
 
 // The root tile. What was put into it is within the limits, and its templates are templates.
 fn root_value(alloc: Global, layout: &Layout) -> Result<Value, AllocError>
-    ensures value { IfOk result (λ value. view value ≡ root_value_of layout.now.contents (implicit_value_of layout.now.scheme layout.now.subtree_levels layout.now.levels layout.now.subtree)) }
+    ensures value { IfOk result
+        (λ value. view value ≡ root_value_of layout.now.contents
+        (implicit_value_of layout.now.scheme layout.now.subtree_levels layout.now.levels layout.now.subtree)) }
     ensures layout { OnOk result (IsLayout layout.now) }
 {
     let mut members = Map::new(alloc);
@@ -152,7 +158,8 @@ fn put_contents(
     alloc: Global,
     contents: &[Template],
 ) -> Result<(), AllocError>
-    ensures members { OnOk result (members_view members.new.entries ≡ with_contents contents.now (members_view members.old.entries)) }
+    ensures members { OnOk result (members_view members.new.entries ≡ with_contents contents.now
+        (members_view members.old.entries)) }
     ensures templates { OnOk result (All IsTemplateText contents.now) }
 {
     if contents.is_empty() {

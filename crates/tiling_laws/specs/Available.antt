@@ -4,7 +4,8 @@ use Rattle.std.specs.Prelude.{◌≡◌, ℕ, ◌≤◌, ◌<◌, ◌↔◌, ◌
 use Rattle.implicit_tiling.specs.Tile.{Tile, IsTile, root, parent, ancestor}
 use Rattle.implicit_tiling.specs.Region.{Region}
 use Rattle.implicit_tiling.specs.Scene.{Layout, Outcome, Scene, fault_of}
-use Rattle.implicit_tiling.specs.Availability.{subtree_root, is_subtree_root, tile_bit, child_bit, is_available, is_reached}
+use Rattle.implicit_tiling.specs.Availability.{subtree_root, is_subtree_root, tile_bit, child_bit, is_available}
+use Rattle.implicit_tiling.specs.Availability.{is_reached}
 use Rattle.implicit_tiling.specs.Answer.{is_on_walk, answer}
 
 -- the file of the tile's subtree is reached and has no fault, the tile's bit is 1, and the tile is at level 0 or its
@@ -28,7 +29,8 @@ pub record IsNamed (s : Scene) (r : Tile) : Type 0 where
 
 -- of a subtree root below level 0
 abbrev pub ReachedAsWritten : Type 0
-ReachedAsWritten = (s : Scene) (r : Tile) → is_subtree_root s.layout r ≡ true → 0 < r.level → (is_reached s r ≡ true) ↔ IsNamed s r
+ReachedAsWritten = (s : Scene) (r : Tile) → is_subtree_root s.layout r ≡ true → 0 < r.level → (is_reached s r ≡ true)
+    ↔ IsNamed s r
 
 -- the root tile is reached where there is a level at all
 abbrev pub RootIsReached : Type 0
@@ -41,7 +43,8 @@ pub record HasBits (s : Scene) (t : Tile) : Type 0 where
 
 -- a tile is available where it and all its ancestors have their bits
 abbrev pub AvailableByBits : Type 0
-AvailableByBits = (s : Scene) (t : Tile) → (is_available s t ≡ true) ↔ ((k : ℕ) → k ≤ t.level → HasBits s (ancestor k t))
+AvailableByBits = (s : Scene) (t : Tile) → (is_available s t ≡ true)
+    ↔ ((k : ℕ) → k ≤ t.level → HasBits s (ancestor k t))
 
 abbrev pub scene : Layout → (Tile → Outcome) → Scene
 scene layout outcome = record { layout = layout; outcome = outcome }

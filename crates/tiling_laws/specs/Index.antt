@@ -10,7 +10,8 @@ FurtherPlacesAddNothing = (scheme : Scheme) (k places x y z : ℕ) → x < 2 ^ k
 
 -- the index of a child is N times its parent's, plus the child's number
 abbrev pub ChildIndex : Type 0
-ChildIndex = (scheme : Scheme) (t : Tile) (n : ℕ) → n < branching scheme → index scheme (child t n) ≡ branching scheme * index scheme t + n
+ChildIndex = (scheme : Scheme) (t : Tile) (n : ℕ) → n < branching scheme
+    → index scheme (child t n) ≡ branching scheme * index scheme t + n
 
 -- the index of a tile is below N^level
 abbrev pub IndexIsBelow : Type 0
@@ -19,7 +20,8 @@ IndexIsBelow = (scheme : Scheme) (t : Tile) → index scheme t < branching schem
 -- each number below N^level is the index of a tile of that level
 abbrev pub EachIndexHasATile : Type 0
 EachIndexHasATile = (scheme : Scheme) (level i : ℕ) → i < branching scheme ^ level
-    → IsTile scheme (tile_at scheme level i) × ((tile_at scheme level i).level ≡ level) × (index scheme (tile_at scheme level i) ≡ i)
+    → IsTile scheme (tile_at scheme level i) × ((tile_at scheme level i).level ≡ level)
+    × (index scheme (tile_at scheme level i) ≡ i)
 
 -- and that tile is found again from its level and index
 abbrev pub TileIsAtItsIndex : Type 0
@@ -27,13 +29,16 @@ TileIsAtItsIndex = (scheme : Scheme) (t : Tile) → IsTile scheme t → tile_at 
 
 -- tiles of one level with one index are one tile
 abbrev pub OneIndexOneTile : Type 0
-OneIndexOneTile = (scheme : Scheme) (t u : Tile) → IsTile scheme t → IsTile scheme u → t.level ≡ u.level → index scheme t ≡ index scheme u → t ≡ u
+OneIndexOneTile = (scheme : Scheme) (t u : Tile) → IsTile scheme t → IsTile scheme u → t.level ≡ u.level
+    → index scheme t ≡ index scheme u → t ≡ u
 
 -- the index of the ancestor k levels above
 abbrev pub AncestorIndex : Type 0
-AncestorIndex = (scheme : Scheme) (k : ℕ) (t : Tile) → k ≤ t.level → index scheme (ancestor k t) ≡ index scheme t / branching scheme ^ k
+AncestorIndex = (scheme : Scheme) (k : ℕ) (t : Tile) → k ≤ t.level
+    → index scheme (ancestor k t) ≡ index scheme t / branching scheme ^ k
 
 -- the descendants of a tile of index i, k levels below it, are the tiles there of index i * N^k to (i + 1) * N^k - 1
 abbrev pub DescendantsAreARun : Type 0
 DescendantsAreARun = (scheme : Scheme) (k : ℕ) (t u : Tile) → IsTile scheme t → IsTile scheme u → t.level ≡ u.level + k
-    → (ancestor k t ≡ u) ↔ ((index scheme u * branching scheme ^ k ≤ index scheme t) × (index scheme t < (index scheme u + 1) * branching scheme ^ k))
+    → (ancestor k t ≡ u) ↔ ((index scheme u * branching scheme ^ k ≤ index scheme t)
+    × (index scheme t < (index scheme u + 1) * branching scheme ^ k))

@@ -7,8 +7,10 @@ use Rattle.implicit_tiling.specs.Tile.{Tile, IsTile, is_key_below, IsInKeyOrder,
 -- no key is below itself, keys below one another make a chain, and of two tiles one is below the other or they are one
 pub record IsStrictOrder (scheme : Scheme) : Type 0 where
   pub irreflexive : (t : Tile) → is_key_below scheme t t ≡ false
-  pub transitive : (t u v : Tile) → is_key_below scheme t u ≡ true → is_key_below scheme u v ≡ true → is_key_below scheme t v ≡ true
-  pub total : (t u : Tile) → IsTile scheme t → IsTile scheme u → (t ≡ u) ⊎ ((is_key_below scheme t u ≡ true) ⊎ (is_key_below scheme u t ≡ true))
+  pub transitive : (t u v : Tile) → is_key_below scheme t u ≡ true → is_key_below scheme u v ≡ true
+      → is_key_below scheme t v ≡ true
+  pub total : (t u : Tile) → IsTile scheme t → IsTile scheme u → (t ≡ u) ⊎ ((is_key_below scheme t u ≡ true)
+      ⊎ (is_key_below scheme u t ≡ true))
 
 abbrev pub KeysAreAnOrder : Type 0
 KeysAreAnOrder = (scheme : Scheme) → IsStrictOrder scheme
@@ -19,9 +21,11 @@ AllTilesAreInKeyOrder = (scheme : Scheme) (last : ℕ) → IsInKeyOrder scheme (
 
 -- it has each tile of these levels, and nothing else
 abbrev pub AllTilesAreThere : Type 0
-AllTilesAreThere = (scheme : Scheme) (last : ℕ) (t : Tile) → Contains (all_tiles scheme last) t ↔ (IsTile scheme t × (t.level ≤ last))
+AllTilesAreThere = (scheme : Scheme) (last : ℕ) (t : Tile) → Contains (all_tiles scheme last) t
+    ↔ (IsTile scheme t × (t.level ≤ last))
 
 -- two lists in key order which have the same tiles are one list
 abbrev pub RisingListsAreOne : Type 0
 RisingListsAreOne = (scheme : Scheme) (one other : List Tile)
-    → IsInKeyOrder scheme one → IsInKeyOrder scheme other → ((t : Tile) → Contains one t ↔ Contains other t) → one ≡ other
+    → IsInKeyOrder scheme one → IsInKeyOrder scheme other → ((t : Tile) → Contains one t ↔ Contains other t)
+    → one ≡ other

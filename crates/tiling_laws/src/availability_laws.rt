@@ -1,5 +1,6 @@
 // Laws of which tiles are available, and of what an answer reads (OGC 22-025r4, implicit tiling: availability).
-ghost use Rattle.tiling_laws.specs.Available.{AvailableAsWritten, ReachedAsWritten, RootIsReached, AvailableByBits, AnswerReadsTheWalk};
+ghost use Rattle.tiling_laws.specs.Available.{AvailableAsWritten, ReachedAsWritten, RootIsReached, AvailableByBits};
+ghost use Rattle.tiling_laws.specs.Available.{AnswerReadsTheWalk};
 
 /// A tile is available exactly where its subtree's file is reached and has no fault, its bit is 1, and it is the
 /// root tile or its parent is available.

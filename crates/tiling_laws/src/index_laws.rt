@@ -1,5 +1,6 @@
 // Laws of the Morton index (OGC 22-025r4, implicit tiling: Morton index).
-ghost use Rattle.tiling_laws.specs.Index.{FurtherPlacesAddNothing, ChildIndex, IndexIsBelow, EachIndexHasATile, TileIsAtItsIndex, OneIndexOneTile, AncestorIndex, DescendantsAreARun};
+ghost use Rattle.tiling_laws.specs.Index.{FurtherPlacesAddNothing, ChildIndex, IndexIsBelow, EachIndexHasATile};
+ghost use Rattle.tiling_laws.specs.Index.{TileIsAtItsIndex, OneIndexOneTile, AncestorIndex, DescendantsAreARun};
 
 /// Places from the level on add nothing: the index of a tile is the same over any number of places that holds its
 /// level.

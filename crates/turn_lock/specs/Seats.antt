@@ -17,11 +17,29 @@ pub record Seat (G N T : Type 0) : Type 0 where
 module _ {G N T : Type 0} where
   -- a seat that never tried
   abbrev pub fresh : TableId → G → N → Seat G N T
-  fresh table tag note = record { table = table; tag = tag; note = note; tries = []; out = None; last = None; gave = None }
+  fresh table tag note = record {
+    table = table;
+    tag = tag;
+    note = note;
+    tries = [];
+    out = None;
+    last = None;
+    gave =
+        None;
+  }
 
   -- what is seen of a seat of a table, with what it took and gave last
   abbrev pub seen : TableId → View G N T → Option T → Option T → Seat G N T
-  seen table v last gave = record { table = table; tag = v.tag; note = v.note; tries = v.tries; out = v.out; last = last; gave = gave }
+  seen table v last gave = record {
+    table = table;
+    tag = v.tag;
+    note = v.note;
+    tries = v.tries;
+    out = v.out;
+    last =
+        last;
+    gave = gave;
+  }
 
 -- more tries than before, each of which found the turn taken but the last, which found it free
 abbrev pub AllFrom : List ℕ → List ℕ → Type 0

@@ -12,9 +12,16 @@ abbrev pub scheme_of : ℕ → Scheme
 scheme_of axes = if axes == 3 then Oct else Quad
 
 abbrev pub tile_of : ℕ → List ℕ → Tile
-tile_of level coords = record { level = level; x = slice_index coords 0; y = slice_index coords 1; z = slice_index coords 2 }
+tile_of level coords = record {
+  level = level;
+  x = slice_index coords 0;
+  y = slice_index coords 1;
+  z = slice_index
+      coords 2;
+}
 
 -- the number of the variable that was found, and the text behind its name
 abbrev pub FindsVariable : Option (List ℕ × ℕ) → List ℕ → Option (ℕ × Bor (List ℕ)) → Type 0
 FindsVariable found text None = found ≡ None
-FindsVariable found text (Some r) = (name : List ℕ) × (found ≡ Some (123 ∷ name, r.0)) × (text ≡ name ++ r.1.now) × IsUtf8 r.1.now
+FindsVariable found text (Some r) = (name : List ℕ) × (found ≡ Some (123 ∷ name, r.0)) × (text ≡ name ++ r.1.now)
+    × IsUtf8 r.1.now

@@ -1,5 +1,6 @@
 // Filling templates: runs of text are copied, and numbers written where variables stand.
-ghost use Rattle.std.specs.Prelude.{◌≡◌, ◌≤◌, ◌∷◌, ◌++◌, OnOk, string_bytes, is_some, length, take, nat_eq, IfSome, IsUtf8};
+ghost use Rattle.std.specs.Prelude.{◌≡◌, ◌≤◌, ◌∷◌, ◌++◌, OnOk, string_bytes, is_some, length, take, nat_eq, IfSome};
+ghost use Rattle.std.specs.Prelude.{IsUtf8};
 ghost use Rattle.std.specs.List.{starts_with};
 ghost use Rattle.implicit_tiling.specs.Template.{filled, variable_at, variables};
 ghost use Rattle.uri_template.specs.Filling.{scheme_of, tile_of, FindsVariable};
@@ -16,7 +17,8 @@ pub(crate) fn append_filled(
     out: &mut String,
 ) -> Result<(), AllocError>
     requires { (2 ≤ axes) × (axes ≤ 3) }
-    ensures filled { OnOk result (string_bytes out.new ≡ string_bytes out.old ++ filled (scheme_of axes) text.now (tile_of level coords)) }
+    ensures filled { OnOk result (string_bytes out.new ≡ string_bytes out.old ++ filled (scheme_of axes) text.now
+        (tile_of level coords)) }
     ensures kept { take (length (string_bytes out.old)) (string_bytes out.new) ≡ string_bytes out.old }
 {
     let mut digits = Buffer::new();
@@ -45,7 +47,8 @@ pub(crate) fn variable<'t>(
     text: &'t str,
 ) -> Option<(u32, &'t str)>
     requires { (2 ≤ axes) × (axes ≤ 3) }
-    ensures { FindsVariable (variable_at (variables (scheme_of axes) (tile_of level coords)) (123 ∷ text.now)) text.now result }
+    ensures { FindsVariable (variable_at (variables (scheme_of axes) (tile_of level coords))
+        (123 ∷ text.now)) text.now result }
 {
     if let Some(behind) = behind_name(text, "level}") {
         return Some((level, behind));

@@ -1,5 +1,6 @@
 // Templates: texts that were tested once, and are filled for many tiles.
-ghost use Rattle.std.specs.Prelude.{◌≡◌, ◌<◌, ◌≤◌, ◌↔◌, ◌++◌, ◌*◌, false, IfOk, IsTrue, OnOk, OnErr, string_bytes, is_ok, length};
+ghost use Rattle.std.specs.Prelude.{◌≡◌, ◌<◌, ◌≤◌, ◌↔◌, ◌++◌, ◌*◌, false, IfOk, IsTrue, OnOk, OnErr, string_bytes};
+ghost use Rattle.std.specs.Prelude.{is_ok, length};
 ghost use Rattle.uri_template.specs.Filling.{scheme_of, tile_of};
 ghost use Rattle.implicit_tiling.specs.Template.{filled, is_template, is_printable as printable};
 
@@ -44,7 +45,8 @@ impl Template {
         ensures template { IfOk result (λ t. t ≡ string_bytes text) }
         ensures accepted { is_ok result ≡ is_template (string_bytes text) }
         ensures too_long { (result ≡ Err TemplateFault.TooLong) ↔ (MOST_BYTES < length (string_bytes text)) }
-        ensures control { (result ≡ Err TemplateFault.ControlCharacter) ↔ ((length (string_bytes text) ≤ MOST_BYTES) × (printable (string_bytes text) ≡ false)) }
+        ensures control { (result ≡ Err TemplateFault.ControlCharacter) ↔ ((length (string_bytes text) ≤ MOST_BYTES)
+            × (printable (string_bytes text) ≡ false)) }
     {
         if text.len() > MOST_BYTES {
             return Err(TemplateFault::TooLong);
@@ -74,7 +76,8 @@ impl Template {
         out: &mut String,
     ) -> Result<(), AllocError>
         requires { (2 ≤ axes) × (axes ≤ 3) }
-        ensures filled { OnOk result (string_bytes out.new ≡ string_bytes out.old ++ filled (scheme_of axes) self.now (tile_of level coords)) }
+        ensures filled { OnOk result (string_bytes out.new ≡ string_bytes out.old ++ filled (scheme_of axes) self.now
+            (tile_of level coords)) }
         ensures unchanged { OnErr result (string_bytes out.new ≡ string_bytes out.old) }
     {
         let before = out.len();
@@ -85,7 +88,8 @@ impl Template {
         appended
     }
 
-    /// The length in bytes of the text that `fill` appends, at most 10 for each byte of the template. It takes no memory.
+    /// The length in bytes of the text that `fill` appends, at most 10 for each byte of the template. It takes no
+    /// memory.
     pub fn filled_length(&self, axes: u32, level: u32, coords: [u32; 3]) -> u64
         requires { (2 ≤ axes) × (axes ≤ 3) }
         ensures length { result ≡ length (filled (scheme_of axes) self.now (tile_of level coords)) }

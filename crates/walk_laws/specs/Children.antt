@@ -1,5 +1,5 @@
--- The subtree roots on a walk, from level to level (OGC 22-025r4, implicit tiling: child subtree availability; the walk is
--- this project's own).
+-- The subtree roots on a walk, from level to level (OGC 22-025r4, implicit tiling: child subtree availability; the
+-- walk is this project's own).
 use Rattle.std.specs.Prelude.{ℕ, ◌≡◌, ◌+◌, ◌%◌, ◌≤◌, true, List, [], ◌∷◌, map, filter}
 use Rattle.std.specs.List.{flat_map, All}
 use Rattle.implicit_tiling.specs.Tile.{Tile, IsTile, root}
@@ -30,7 +30,8 @@ ChildWordsAreRootWords = (s : Scene) (region : Region) (st : Subtree) → IsDeco
 
 -- there are none below a faulty file
 abbrev pub NoRootBelowAFault : Type 0
-NoRootBelowAFault = (s : Scene) (region : Region) (r : Tile) (n : ℕ) → 1 ≤ s.layout.subtree_levels → IsTile s.layout.scheme r
+NoRootBelowAFault = (s : Scene) (region : Region) (r : Tile) (n : ℕ) → 1 ≤ s.layout.subtree_levels
+    → IsTile s.layout.scheme r
     → is_subtree_root s.layout r ≡ true → s.outcome r ≡ bad n → roots_below s region r ≡ []
 
 -- the roots of a level are those below the roots one subtree above
@@ -51,4 +52,5 @@ RootsAreOnTheWalk = (s : Scene) (region : Region) (l : ℕ) → All (IsWalkRoot 
 
 -- a walk begins with the root
 abbrev pub RootsBeginAtTheRoot : Type 0
-RootsBeginAtTheRoot = (s : Scene) (region : Region) → 1 ≤ s.layout.levels → IsRegion region → walk_roots s region 0 ≡ root ∷ []
+RootsBeginAtTheRoot = (s : Scene) (region : Region) → 1 ≤ s.layout.levels → IsRegion region
+    → walk_roots s region 0 ≡ root ∷ []

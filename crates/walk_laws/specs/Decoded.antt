@@ -20,12 +20,14 @@ pub record IsDecoded (s : Scene) (st : Subtree) : Type 0 where
 
 -- a node is available where its bit is 1
 abbrev pub NodesAreAvailableByBit : Type 0
-NodesAreAvailableByBit = (s : Scene) (st : Subtree) (k m : ℕ) → IsDecoded s st → k < st.levels → m < branching st.scheme ^ k
+NodesAreAvailableByBit = (s : Scene) (st : Subtree) (k m : ℕ) → IsDecoded s st → k < st.levels
+    → m < branching st.scheme ^ k
     → is_available s (node_at st k m) ≡ has_tile st k m
 
 -- a node that is there has the contents that its bits say
 abbrev pub NodesHaveTheirContents : Type 0
-NodesHaveTheirContents = (s : Scene) (st : Subtree) (k m : ℕ) → IsDecoded s st → k < st.levels → m < branching st.scheme ^ k
+NodesHaveTheirContents = (s : Scene) (st : Subtree) (k m : ℕ) → IsDecoded s st → k < st.levels
+    → m < branching st.scheme ^ k
     → has_tile st k m ≡ true → mask s (node_at st k m) ≡ contents_mask st k m
 
 -- the tiles of a level of the subtree on the walk of a region are its nodes there, and so are their words

@@ -24,7 +24,8 @@ reached_at s l = filter (is_reached s) (tiles_of_level s.layout.scheme l)
 
 -- a root is reached where it is on the walk of the whole region
 abbrev pub ReachedIsOnTheWholeWalk : Type 0
-ReachedIsOnTheWholeWalk = (s : Scene) (t : Tile) → IsTile s.layout.scheme t → is_on_walk s (whole_of s) t ≡ is_reached s t
+ReachedIsOnTheWholeWalk = (s : Scene) (t : Tile) → IsTile s.layout.scheme t
+    → is_on_walk s (whole_of s) t ≡ is_reached s t
 
 -- one subtree more brings the roots of one level more
 abbrev pub ReachedGoDown : Type 0
@@ -42,14 +43,17 @@ ReachedEnd = (s : Scene) (l : ℕ) → 1 ≤ s.layout.subtree_levels → 1 ≤ s
 
 -- on any walk no roots follow a level of roots that has none
 abbrev pub RootsEnd : Type 0
-RootsEnd = (s : Scene) (region : Region) (l m : ℕ) → 1 ≤ s.layout.subtree_levels → l % s.layout.subtree_levels ≡ 0 → l ≤ m
+RootsEnd = (s : Scene) (region : Region) (l m : ℕ) → 1 ≤ s.layout.subtree_levels → l % s.layout.subtree_levels ≡ 0
+    → l ≤ m
     → walk_roots s region l ≡ [] → walk_roots s region m ≡ []
 
 -- a root of a level in the midst of all that are reached
 abbrev pub ReachedAtARoot : Type 0
-ReachedAtARoot = (s : Scene) (l : ℕ) (before : List Tile) (r : Tile) (after : List Tile) → l % s.layout.subtree_levels ≡ 0 → l < s.layout.levels
+ReachedAtARoot = (s : Scene) (l : ℕ) (before : List Tile) (r : Tile) (after : List Tile)
+    → l % s.layout.subtree_levels ≡ 0 → l < s.layout.levels
     → walk_roots s (whole_of s) l ≡ before ++ r ∷ after
-    → reached_roots s ≡ (reached_above s l ++ before) ++ r ∷ (after ++ flat_map (reached_at s) (range_with_len (l + 1) (s.layout.levels - (l + 1))))
+    → reached_roots s ≡ (reached_above s l ++ before)
+    ++ r ∷ (after ++ flat_map (reached_at s) (range_with_len (l + 1) (s.layout.levels - (l + 1))))
 
 -- a check of all roots, and one that stops before another root
 abbrev pub CheckedIsAll : Type 0
@@ -57,5 +61,6 @@ CheckedIsAll = (s : Scene) → length (reached_roots s) ≤ most_roots
     → checked s ≡ record { looked = reached_roots s; faults = filter_map (fault_at s) (reached_roots s); more = false }
 
 abbrev pub CheckedIsCut : Type 0
-CheckedIsCut = (s : Scene) (done : List Tile) (r : Tile) (rest : List Tile) → reached_roots s ≡ done ++ r ∷ rest → length done ≡ most_roots
+CheckedIsCut = (s : Scene) (done : List Tile) (r : Tile) (rest : List Tile) → reached_roots s ≡ done ++ r ∷ rest
+    → length done ≡ most_roots
     → checked s ≡ record { looked = done; faults = filter_map (fault_at s) done; more = true }

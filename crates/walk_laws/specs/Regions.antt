@@ -11,7 +11,8 @@ pub record IsRegion (region : Region) : Type 0 where
 
 -- a region that is accepted is one, at a level below the levels in all
 abbrev pub AcceptedIsARegion : Type 0
-AcceptedIsARegion = (levels level : ℕ) (lo hi : List ℕ) (region : Region) → region_of levels level lo hi ≡ Ok region → IsRegion region × (region.level < levels)
+AcceptedIsARegion = (levels level : ℕ) (lo hi : List ℕ) (region : Region) → region_of levels level lo hi ≡ Ok region
+    → IsRegion region × (region.level < levels)
 
 -- the greatest coordinate of the last level
 abbrev pub last_coordinate : ℕ → ℕ
@@ -30,4 +31,5 @@ WholeIsARegion = (scheme : Scheme) (levels : ℕ) → IsRegion (whole scheme lev
 
 -- it has every tile of the levels in all
 abbrev pub WholeHasEachTile : Type 0
-WholeHasEachTile = (scheme : Scheme) (levels : ℕ) (t : Tile) → IsTile scheme t → t.level < levels → is_in (whole scheme levels) t ≡ true
+WholeHasEachTile = (scheme : Scheme) (levels : ℕ) (t : Tile) → IsTile scheme t → t.level < levels
+    → is_in (whole scheme levels) t ≡ true

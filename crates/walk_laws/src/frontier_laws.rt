@@ -1,6 +1,7 @@
 // Laws of the subtree roots that are reached, level by level (this project's own).
 ghost use Rattle.walk_laws.specs.Regions.{WholeIsARegion, WholeHasEachTile};
-ghost use Rattle.walk_laws.specs.Frontiers.{ReachedIsOnTheWholeWalk, ReachedGoDown, ReachedAreAll, ReachedEnd, RootsEnd};
+ghost use Rattle.walk_laws.specs.Frontiers.{ReachedIsOnTheWholeWalk, ReachedGoDown, ReachedAreAll, ReachedEnd};
+ghost use Rattle.walk_laws.specs.Frontiers.{RootsEnd};
 ghost use Rattle.walk_laws.specs.Frontiers.{ReachedAtARoot, CheckedIsAll, CheckedIsCut};
 
 /// The region of the last level with its whole box is a region.
@@ -38,7 +39,8 @@ pub fn roots_on_the_walk_end()
     ensures { RootsEnd }
 {}
 
-/// A root on the walk of the whole region stands, among all that are reached, after those above its level and those before it.
+/// A root on the walk of the whole region stands, among all that are reached, after those above its level and those
+/// before it.
 pub fn a_root_is_in_the_midst_of_reached_roots()
     ensures { ReachedAtARoot }
 {}

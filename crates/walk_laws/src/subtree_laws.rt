@@ -1,5 +1,6 @@
 // Laws of a decoded subtree on the walk (OGC 22-025r4, implicit tiling: availability).
-ghost use Rattle.walk_laws.specs.Decoded.{NodesAreAvailableByBit, NodesHaveTheirContents, NodesMakeASegment, NodeWordsAreTileWords};
+ghost use Rattle.walk_laws.specs.Decoded.{NodesAreAvailableByBit, NodesHaveTheirContents, NodesMakeASegment};
+ghost use Rattle.walk_laws.specs.Decoded.{NodeWordsAreTileWords};
 
 /// A node of a decoded subtree is available exactly where its bit is 1.
 pub fn nodes_are_available_by_their_bits()
@@ -11,7 +12,8 @@ pub fn nodes_have_their_contents()
     ensures { NodesHaveTheirContents }
 {}
 
-/// The available tiles of a region in a local level of a decoded subtree are its nodes that are there and in the region.
+/// The available tiles of a region in a local level of a decoded subtree are its nodes that are there and in the
+/// region.
 pub fn nodes_make_a_segment()
     ensures { NodesMakeASegment }
 {}
