@@ -6,12 +6,11 @@ use crate::{
     WriteOutlet, give_all, give_rest, give_when_full,
 };
 use std::alloc::{AllocError, Global};
-use std::fs;
 use std::fs::Permissions;
-use std::io;
 use std::io::{ErrorKind, Read, Write};
 use std::os::unix::fs::{PermissionsExt, symlink};
 use std::test::Fail;
+use std::{fs, io};
 
 fn pair(alloc: Global, name: &str, bytes: &[u8]) -> Result<(String, Vec<u8>), AllocError> {
     Ok((
@@ -278,7 +277,12 @@ fn the_folder_opens_the_path_of_the_name(rt: HostRuntime) -> Result<(), Fail> {
         assert!(rt; folder.fetch(name, MOST_FILE_BYTES, &mut out) == Fetch::Whole);
         assert!(rt; out.as_slice() == path.as_bytes());
     }
-    for name in ["../view_x", "%2e%2e/view_x", "%2E./view_x", "%2e%2e/../view_x"] {
+    for name in [
+        "../view_x",
+        "%2e%2e/view_x",
+        "%2E./view_x",
+        "%2e%2e/../view_x",
+    ] {
         assert!(rt; folder.put(name, b"1") == Put::Failed);
         assert!(rt; folder.fetch(name, MOST_FILE_BYTES, &mut out) == Fetch::Missing);
     }
@@ -300,7 +304,9 @@ fn the_folder_where_the_system_refuses(rt: HostRuntime) -> Result<(), Fail> {
     assert!(rt; folder.put("closed", b"12") == Put::Kept);
     fs::set_permissions(&rt, "closed", Permissions::from_mode(0))?;
     let answer = folder.fetch("closed", MOST_FILE_BYTES, &mut out);
-    assert!(rt; answer == Fetch::Failed || answer == Fetch::Whole && out.as_slice() == b"12".as_slice());
+    assert!(rt;
+        answer == Fetch::Failed || answer == Fetch::Whole && out.as_slice() == b"12".as_slice()
+    );
     // A link to itself.
     symlink(&rt, "round", "round")?;
     assert!(rt; folder.fetch("round", MOST_FILE_BYTES, &mut out) == Fetch::Failed);
