@@ -1,5 +1,6 @@
 -- The rules of a subtree's bits (OGC 22-025r4, implicit tiling: availability), as one answer and as facts of raw bits.
-use Rattle.std.specs.Prelude.{ℕ, ◌≡◌, ◌+◌, ◌-◌, ◌/◌, ◌%◌, ◌^◌, ◌<◌, ◌≤◌, ◌&&◌, not, Bool, true, false, List, Result, Ok, Err, MatchBool}
+use Rattle.std.specs.Prelude.{ℕ, ◌≡◌, ◌+◌, ◌-◌, ◌/◌, ◌%◌, ◌^◌, ◌<◌, ◌≤◌, ◌&&◌, not, Bool, true, false, List, Result}
+use Rattle.std.specs.Prelude.{Ok, Err, MatchBool}
 use Rattle.implicit_tiling.specs.declared.Scheme.{Scheme}
 use Rattle.implicit_tiling.specs.Tile.{branching}
 use Rattle.implicit_tiling.specs.Availability.{nodes_above}
@@ -34,7 +35,8 @@ abbrev pub node_raw_bit : Scheme → List Bool → ℕ → ℕ → Bool
 node_raw_bit scheme bits l m = bit_at bits (nodes_above scheme l + m)
 
 abbrev pub raw_orphan : Scheme → List Bool → ℕ → ℕ → Bool
-raw_orphan scheme bits l m = node_raw_bit scheme bits l m && not (node_raw_bit scheme bits (l - 1) (m / branching scheme))
+raw_orphan scheme bits l m = node_raw_bit scheme bits l m
+    && not (node_raw_bit scheme bits (l - 1) (m / branching scheme))
 
 -- whether some node of the level is one without its parent
 abbrev pub HasOrphanAt : Scheme → List Bool → ℕ → Bool → Type 0

@@ -1,7 +1,9 @@
 // Decoded subtrees.
 ghost use Rattle.std.specs.Prelude.{◌≡◌, ◌^◌, ◌<◌, ◌≤◌, MatchOption};
 ghost use Rattle.implicit_tiling.specs.Tile.{branching};
-ghost use Rattle.implicit_tiling.specs.Subtree.{is_kept as is_kept_of, has_tile, has_child, contents_mask, has_orphan as has_orphan_of, has_content_alone as has_content_alone_of};
+ghost use Rattle.implicit_tiling.specs.Subtree.{is_kept as is_kept_of, has_tile, has_child, contents_mask};
+ghost use Rattle.implicit_tiling.specs.Subtree.{has_orphan as has_orphan_of};
+ghost use Rattle.implicit_tiling.specs.Subtree.{has_content_alone as has_content_alone_of};
 ghost use Rattle.bitstream.specs.Bits.{HasNoOne, IsFirstOne};
 ghost use Rattle.availability.specs.Rules.{rule_fault, IsKeptCount};
 
@@ -36,9 +38,27 @@ impl Model for Subtree {
 
     ghost Value = { subtree };
 
-    ghost view = { λ s. record { scheme = s.scheme; levels = s.levels; cut = s.cut; root = s.root; tiles = s.tiles; contents = s.contents.items; child = s.child } };
+    ghost view = { λ s. record {
+      scheme = s.scheme;
+      levels = s.levels;
+      cut = s.cut;
+      root = s.root;
+      tiles = s.tiles;
+      contents = s.contents.items;
+      child = s.child;
+    } };
 
-    ghost invariant = { λ s. IsSubtree (record { scheme = s.scheme; levels = s.levels; cut = s.cut; root = s.root; tiles = s.tiles; contents = s.contents.items; child = s.child }) };
+    ghost invariant = { λ s. IsSubtree
+        (record {
+          scheme = s.scheme;
+          levels = s.levels;
+          cut = s.cut;
+          root = s.root;
+          tiles = s.tiles;
+          contents =
+              s.contents.items;
+          child = s.child;
+        }) };
 }
 
 /// Which rule the bits of a subtree break.
@@ -64,7 +84,8 @@ impl Subtree {
     pub fn next_tile(&self, local: u32, from: u64) -> Option<u64>
         requires local { local < self.now.levels }
         requires from { from ≤ branching self.now.scheme ^ local }
-        ensures { MatchOption result (HasNoOne (has_tile self.now local) from (branching self.now.scheme ^ local)) (IsFirstOne (has_tile self.now local) from (branching self.now.scheme ^ local)) }
+        ensures { MatchOption result (HasNoOne (has_tile self.now local) from (branching self.now.scheme ^ local))
+            (IsFirstOne (has_tile self.now local) from (branching self.now.scheme ^ local)) }
     {
         if !self.is_kept(local) {
             return None;
@@ -99,7 +120,9 @@ impl Subtree {
     /// The least index from `from` on of a child subtree. None exactly where there is none.
     pub fn next_child(&self, from: u64) -> Option<u64>
         requires { from ≤ branching self.now.scheme ^ self.now.levels }
-        ensures { MatchOption result (HasNoOne (has_child self.now) from (branching self.now.scheme ^ self.now.levels)) (IsFirstOne (has_child self.now) from (branching self.now.scheme ^ self.now.levels)) }
+        ensures { MatchOption result (HasNoOne (has_child self.now) from
+            (branching self.now.scheme ^ self.now.levels)) (IsFirstOne (has_child self.now) from
+            (branching self.now.scheme ^ self.now.levels)) }
     {
         if !self.is_kept(self.levels) {
             return None;

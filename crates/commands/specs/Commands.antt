@@ -1,5 +1,7 @@
--- The tables over all commands: what a command line may ask for, by which words, and what is promised (this project's own).
-use Rattle.std.specs.Prelude.{ℕ, ◌≡◌, nat_le, false, List, [], ◌∷◌, codes, Option, Some, None, option_and_then, option_map, Result, Ok, Err, if◌then◌else◌}
+-- The tables over all commands: what a command line may ask for, by which words, and what is promised (this project's
+-- own).
+use Rattle.std.specs.Prelude.{ℕ, ◌≡◌, nat_le, false, List, [], ◌∷◌, codes, Option, Some, None, option_and_then}
+use Rattle.std.specs.Prelude.{option_map, Result, Ok, Err, if◌then◌else◌}
 use Rattle.std.specs.Str.{bytes_eq}
 use Rattle.implicit_tiling.specs.Request.{Line, line_of_words}
 use Rattle.request_text.specs.Lines.{line_seen}

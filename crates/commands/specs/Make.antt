@@ -23,8 +23,8 @@ pub record IsMade (r : Recipe) (before now : Files) : Type 0 where
   pub layout : layout_in now ≡ Ok (recipe_layout r)
   pub holds : HoldsTiles (scene_of now (recipe_layout r)) (recipe_words r)
 
--- What a call with a status leaves of the files that were kept: the whole tileset; or the first of its files were put and no
--- later one, and nothing is known of the one at which the keeper failed. It ends with no other status.
+-- What a call with a status leaves of the files that were kept: the whole tileset; or the first of its files were put
+-- and no later one, and nothing is known of the one at which the keeper failed. It ends with no other status.
 abbrev pub Leaves : Recipe → Files → Files → Status → Type 0
 Leaves r before now Done = IsMade r before now
 Leaves r before now WriteFault = IsCut (recipe_files r) before now ⊎ IsCutAt (recipe_files r) before now

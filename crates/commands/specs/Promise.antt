@@ -5,8 +5,8 @@ use Rattle.program_status.specs.declared.status.Status.{Status}
 use Rattle.commands.specs.Replies.{Reply}
 
 pub record Promise : Type 1 where
-  -- the reply, or the status that comes before anything is given: over the files of the source where it reads any, and then only
-  -- where they are told
+  -- the reply, or the status that comes before anything is given: over the files of the source where it reads any,
+  -- and then only where they are told
   pub reply : Option Files → Option (Result Reply Status)
   -- the statuses with which it may end, whatever is told
   pub ends : List Status

@@ -7,7 +7,8 @@ use Rattle.implicit_tileset.specs.Scene.{scene_of, layout_in}
 use Rattle.scene_ports.specs.Output.{GivesFront}
 use Rattle.program_status.specs.Sets.{IsOneOf, layout_faults}
 use Rattle.program_status.specs.declared.status.Status.{Status}
-use Rattle.program_status.specs.declared.status.Status.TheVariants.{BadLayout, ReadFault, WriteFault, InputFault, Memory, InputLong}
+use Rattle.program_status.specs.declared.status.Status.TheVariants.{BadLayout, ReadFault, WriteFault, InputFault}
+use Rattle.program_status.specs.declared.status.Status.TheVariants.{Memory, InputLong}
 
 -- a text, and the status of a program that gave it whole
 pub record Reply : Type 0 where
@@ -49,8 +50,9 @@ abbrev pub IsBroken : Result Reply Status → Option (List ℕ) → Option (List
 IsBroken (Ok wanted) before now = GivesFront before now wanted.text
 IsBroken (Err early) before now = ⊥
 
--- What was given with a status, of what is wanted. A failed read comes before anything is given; a failed write leaves a front
--- of a reply, and want of memory a front of what is wanted; every other status is the one that is wanted, with the whole text.
+-- What was given with a status, of what is wanted. A failed read comes before anything is given; a failed write
+-- leaves a front of a reply, and want of memory a front of what is wanted; every other status is the one that is
+-- wanted, with the whole text.
 abbrev pub Replies : Result Reply Status → Option (List ℕ) → Option (List ℕ) → Status → Type 0
 Replies wanted before now ReadFault = Keeps before now
 Replies wanted before now WriteFault = IsBroken wanted before now

@@ -13,7 +13,11 @@ abbrev pub most_surveyed_levels : ℕ
 most_surveyed_levels = 4
 
 abbrev pub survey_reply : Recipe → Reply
-survey_reply r = record { status = Done; text = survey_text (survey_of r).files (survey_of r).tiles (survey_of r).listed (survey_of r).contents (survey_of r).more }
+survey_reply r = record {
+  status = Done;
+  text = survey_text (survey_of r).files (survey_of r).tiles
+      (survey_of r).listed (survey_of r).contents (survey_of r).more;
+}
 
 abbrev pub survey_ends : List Status
 survey_ends = Done ∷ WriteFault ∷ Memory ∷ []

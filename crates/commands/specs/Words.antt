@@ -1,5 +1,6 @@
 -- The words behind a command's name, and the forms that several commands share (this project's own).
-use Rattle.std.specs.Prelude.{ℕ, Bool, true, false, ◌==◌, List, [], ◌∷◌, codes, Option, Some, None, option_and_then, if◌then◌else◌}
+use Rattle.std.specs.Prelude.{ℕ, Bool, true, false, ◌==◌, List, [], ◌∷◌, codes, Option, Some, None, option_and_then}
+use Rattle.std.specs.Prelude.{if◌then◌else◌}
 use Rattle.std.specs.List.{list_any}
 use Rattle.std.specs.Str.{bytes_eq}
 use Rattle.implicit_tiling.specs.declared.Scheme.{Scheme}
@@ -24,14 +25,17 @@ has_hyphen words = list_any begins_with_hyphen words
 -- ---- SCHEME LEVELS SUBTREE CONTENTS POINTS NUMBER
 
 abbrev pub scheme_of_word : List ℕ → Option Scheme
-scheme_of_word word = if bytes_eq word (codes "quadtree") then Some Quad else (if bytes_eq word (codes "octree") then Some Oct else None)
+scheme_of_word word = if bytes_eq word (codes "quadtree") then Some Quad else
+    (if bytes_eq word (codes "octree") then Some Oct else None)
 
 -- five numbers, each in its range
 abbrev pub recipe_of_numbers : Scheme → List ℕ → Option Recipe
-recipe_of_numbers scheme (levels ∷ subtree_levels ∷ contents ∷ points ∷ number ∷ []) = recipe_of scheme levels subtree_levels contents points number
+recipe_of_numbers scheme (levels ∷ subtree_levels ∷ contents ∷ points ∷ number ∷ []) = recipe_of scheme levels
+    subtree_levels contents points number
 recipe_of_numbers scheme others = None
 
 -- a scheme, and words of the form of a number
 abbrev pub recipe_of_words : List (List ℕ) → Option Recipe
 recipe_of_words [] = None
-recipe_of_words (scheme ∷ words) = option_and_then (λ s. option_and_then (recipe_of_numbers s) (numbers words)) (scheme_of_word scheme)
+recipe_of_words (scheme ∷ words) = option_and_then (λ s. option_and_then (recipe_of_numbers s) (numbers words))
+    (scheme_of_word scheme)

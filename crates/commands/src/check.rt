@@ -33,7 +33,8 @@ pub(crate) fn read(alloc: Global, words: &[String]) -> Result<Asked, WordFault>
 
 /// Gives the faults of all subtree files that are reached from the layout of the files.
 pub(crate) fn run<S: FileSource, O: Outlet>(alloc: Global, files: &mut S, out: &mut O) -> Status
-    ensures replies { IfSome (reply_in check_reply (S.told files.old)) (λ wanted. Replies wanted (O.given out.old) (O.given out.new) result) }
+    ensures replies { IfSome (reply_in check_reply (S.told files.old))
+        (λ wanted. Replies wanted (O.given out.old) (O.given out.new) result) }
     ensures ends { IsOneOf check_ends result }
     ensures nothing { IsBeforeWriting result → Keeps (O.given out.old) (O.given out.new) }
     ensures read_fault { result ≡ Status.ReadFault → Rose (S.faults files.old) (S.faults files.new) }
@@ -56,7 +57,8 @@ fn check_layout<S: FileSource, O: Outlet>(
     files: &mut S,
     out: &mut O,
 ) -> Status
-    ensures replies { IfSome (S.told files.old) (λ all. Replies (Ok (check_reply (scene_of all layout.now))) (O.given out.old) (O.given out.new) result) }
+    ensures replies { IfSome (S.told files.old)
+        (λ all. Replies (Ok (check_reply (scene_of all layout.now))) (O.given out.old) (O.given out.new) result) }
     ensures ends { IsOneOf check_ends result }
     ensures nothing { IsBeforeWriting result → Keeps (O.given out.old) (O.given out.new) }
     ensures read_fault { result ≡ Status.ReadFault → Rose (S.faults files.old) (S.faults files.new) }

@@ -27,8 +27,8 @@ pub enum Asked {
     Survey { recipe: Recipe },
 }
 
-/// What the words behind the program's name ask for: a command's name, then its words, of which the first that is `--` is
-/// dropped. Usage exactly where they are not the words of a command.
+/// What the words behind the program's name ask for: a command's name, then its words, of which the first that is
+/// `--` is dropped. Usage exactly where they are not the words of a command.
 pub fn words_of(alloc: Global, words: &[String]) -> Result<Asked, WordFault>
     ensures { IsReadAs (asked (map string_bytes words.now)) result }
 {
@@ -44,8 +44,9 @@ pub fn words_of(alloc: Global, words: &[String]) -> Result<Asked, WordFault>
     }
 }
 
-/// Runs a command over files, a keeper of files, an inlet and an outlet: the words are read, then the layout is fetched,
-/// then the request line is held against it, then the work is done, then the text is given. `make` and `survey` fetch no file.
+/// Runs a command over files, a keeper of files, an inlet and an outlet: the words are read, then the layout is
+/// fetched, then the request line is held against it, then the work is done, then the text is given. `make` and
+/// `survey` fetch no file.
 pub fn plain<S: FileSource, K: FileKeeper, I: Inlet, O: Outlet>(
     alloc: Global,
     words: &[String],
@@ -55,11 +56,14 @@ pub fn plain<S: FileSource, K: FileKeeper, I: Inlet, O: Outlet>(
     out: &mut O,
 ) -> Status
     // What was given, and the status, are those of the reply that is promised.
-    ensures replies { IfSome ((promised (asked (map string_bytes words.now))).reply (S.told files.old)) (λ wanted. Replies wanted (O.given out.old) (O.given out.new) result) }
+    ensures replies { IfSome ((promised (asked (map string_bytes words.now))).reply (S.told files.old))
+        (λ wanted. Replies wanted (O.given out.old) (O.given out.new) result) }
 
     // Where no device fails and there is memory, the whole reply is given, and nothing else.
-    ensures complete { IfSome ((promised (asked (map string_bytes words.now))).reply (S.told files.old)) (λ wanted. (result ≡ Status.Memory)
-        ⊎ (Rose (S.faults files.old) (S.faults files.new) ⊎ (Rose (K.faults keep.old) (K.faults keep.new) ⊎ (Rose (O.faults out.old) (O.faults out.new)
+    ensures complete { IfSome ((promised (asked (map string_bytes words.now))).reply (S.told files.old))
+        (λ wanted. (result ≡ Status.Memory)
+        ⊎ (Rose (S.faults files.old) (S.faults files.new) ⊎ (Rose (K.faults keep.old) (K.faults keep.new)
+        ⊎ (Rose (O.faults out.old) (O.faults out.new)
         ⊎ IsGiven wanted (O.given out.old) (O.given out.new) result)))) }
 
     // The statuses, whatever the source tells; the causes of failures, and what they leave.
@@ -67,11 +71,13 @@ pub fn plain<S: FileSource, K: FileKeeper, I: Inlet, O: Outlet>(
     ensures nothing { IsBeforeWriting result → Keeps (O.given out.old) (O.given out.new) }
     ensures read_fault { result ≡ Status.ReadFault → Rose (S.faults files.old) (S.faults files.new) }
     ensures write_fault { result ≡ Status.WriteFault → Rose (O.faults out.old) (O.faults out.new)
-        ⊎ (((promised (asked (map string_bytes words.now))).puts ≡ true) × Rose (K.faults keep.old) (K.faults keep.new)) }
+        ⊎ (((promised (asked (map string_bytes words.now))).puts ≡ true)
+        × Rose (K.faults keep.old) (K.faults keep.new)) }
 
     // The files that are left, and which of them stand before any text.
     ensures leaves { (promised (asked (map string_bytes words.now))).leaves (K.kept keep.old) (K.kept keep.new) result }
-    ensures first { (promised (asked (map string_bytes words.now))).first (K.kept keep.old) (K.kept keep.new) (O.given out.old) (O.given out.new) }
+    ensures first { (promised (asked (map string_bytes words.now))).first (K.kept keep.old) (K.kept keep.new)
+        (O.given out.old) (O.given out.new) }
 
     // What isn't used stays as it is: the source, the keeper, the inlet, and what the outlet is beside one.
     ensures unread { (promised (asked (map string_bytes words.now))).reads ≡ false → files.new ≡ files.old }
@@ -101,14 +107,16 @@ fn run<S: FileSource, K: FileKeeper, O: Outlet>(
     keep: &mut K,
     out: &mut O,
 ) -> Status
-    ensures replies { IfSome ((promised (Some (asked_seen asked.now))).reply (S.told files.old)) (λ wanted. Replies wanted (O.given out.old) (O.given out.new) result) }
+    ensures replies { IfSome ((promised (Some (asked_seen asked.now))).reply (S.told files.old))
+        (λ wanted. Replies wanted (O.given out.old) (O.given out.new) result) }
     ensures ends { IsOneOf (promised (Some (asked_seen asked.now))).ends result }
     ensures nothing { IsBeforeWriting result → Keeps (O.given out.old) (O.given out.new) }
     ensures read_fault { result ≡ Status.ReadFault → Rose (S.faults files.old) (S.faults files.new) }
     ensures write_fault { result ≡ Status.WriteFault → Rose (O.faults out.old) (O.faults out.new)
         ⊎ (((promised (Some (asked_seen asked.now))).puts ≡ true) × Rose (K.faults keep.old) (K.faults keep.new)) }
     ensures leaves { (promised (Some (asked_seen asked.now))).leaves (K.kept keep.old) (K.kept keep.new) result }
-    ensures first { (promised (Some (asked_seen asked.now))).first (K.kept keep.old) (K.kept keep.new) (O.given out.old) (O.given out.new) }
+    ensures first { (promised (Some (asked_seen asked.now))).first (K.kept keep.old) (K.kept keep.new)
+        (O.given out.old) (O.given out.new) }
     ensures unread { (promised (Some (asked_seen asked.now))).reads ≡ false → files.new ≡ files.old }
     ensures kept { (promised (Some (asked_seen asked.now))).puts ≡ false → keep.new ≡ keep.old }
     ensures aside { O.inlet_aside out.new ≡ O.inlet_aside out.old }

@@ -11,8 +11,10 @@ use tileset_make::Recipe;
 /// The recipe that the words behind a command's name write: SCHEME LEVELS SUBTREE CONTENTS POINTS NUMBER.
 #[tactic(auto, using(crate::proofs::Given::no_recipe))]
 pub(crate) fn recipe_of(alloc: Global, name: &str, words: &[String]) -> Result<Recipe, WordFault>
-    ensures taken { IfOk result (λ recipe. recipe_of_words (without_dashes (drop 1 (map string_bytes words.now))) ≡ Some recipe) }
-    ensures refused { result ≡ Err WordFault.Usage → recipe_of_words (without_dashes (drop 1 (map string_bytes words.now))) ≡ None }
+    ensures taken { IfOk result (λ recipe. recipe_of_words (without_dashes (drop 1 (map string_bytes words.now)))
+        ≡ Some recipe) }
+    ensures refused { result ≡ Err WordFault.Usage
+        → recipe_of_words (without_dashes (drop 1 (map string_bytes words.now))) ≡ None }
 {
     let matches = matches_of(alloc, name, words)?;
     let Some(values) = matches.get_strs("values") else {

@@ -66,7 +66,8 @@ pub(crate) fn run<S: FileSource, O: Outlet>(
     files: &mut S,
     out: &mut O,
 ) -> Status
-    ensures replies { IfSome (reply_in (λ s. line_reply s (line_seen line.now)) (S.told files.old)) (λ wanted. Replies wanted (O.given out.old) (O.given out.new) result) }
+    ensures replies { IfSome (reply_in (λ s. line_reply s (line_seen line.now)) (S.told files.old))
+        (λ wanted. Replies wanted (O.given out.old) (O.given out.new) result) }
     ensures ends { IsOneOf tiles_ends result }
     ensures nothing { IsBeforeWriting result → Keeps (O.given out.old) (O.given out.new) }
     ensures read_fault { result ≡ Status.ReadFault → Rose (S.faults files.old) (S.faults files.new) }
@@ -90,7 +91,9 @@ fn answer_line<S: FileSource, O: Outlet>(
     files: &mut S,
     out: &mut O,
 ) -> Status
-    ensures replies { IfSome (S.told files.old) (λ all. Replies (Ok (line_reply (scene_of all layout.now) (line_seen line.now))) (O.given out.old) (O.given out.new) result) }
+    ensures replies { IfSome (S.told files.old)
+        (λ all. Replies (Ok (line_reply (scene_of all layout.now) (line_seen line.now))) (O.given out.old)
+        (O.given out.new) result) }
     ensures ends { IsOneOf tiles_ends result }
     ensures nothing { IsBeforeWriting result → Keeps (O.given out.old) (O.given out.new) }
     ensures read_fault { result ≡ Status.ReadFault → Rose (S.faults files.old) (S.faults files.new) }
@@ -115,7 +118,9 @@ fn answer_plan<S: FileSource, O: Outlet>(
     out: &mut O,
 ) -> Status
     requires { FitsLayout layout.now plan.now }
-    ensures replies { IfSome (S.told files.old) (λ all. Replies (Ok (plan_reply (scene_of all layout.now) (Ok plan.now))) (O.given out.old) (O.given out.new) result) }
+    ensures replies { IfSome (S.told files.old)
+        (λ all. Replies (Ok (plan_reply (scene_of all layout.now) (Ok plan.now))) (O.given out.old)
+        (O.given out.new) result) }
     ensures ends { IsOneOf tiles_ends result }
     ensures nothing { IsBeforeWriting result → Keeps (O.given out.old) (O.given out.new) }
     ensures read_fault { result ≡ Status.ReadFault → Rose (S.faults files.old) (S.faults files.new) }
@@ -155,7 +160,8 @@ fn status_of(end: WalkEnd) -> Status
 
 // Gives the refusal of a line.
 fn refuse<O: Outlet>(alloc: Global, number: u64, out: &mut O) -> Status
-    ensures replies { Replies (Ok (record { status = Status.Usage; text = refused_text number })) (O.given out.old) (O.given out.new) result }
+    ensures replies { Replies (Ok (record { status = Status.Usage; text = refused_text number })) (O.given out.old)
+        (O.given out.new) result }
     ensures ends { IsOneOf tiles_ends result }
     ensures nothing { IsBeforeWriting result → Keeps (O.given out.old) (O.given out.new) }
     ensures no_read { result ≢ Status.ReadFault }

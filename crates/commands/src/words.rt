@@ -34,7 +34,8 @@ pub(crate) fn matches_of<'a>(
     words: &'a [String],
 ) -> Result<ArgMatches<'a>, WordFault>
     ensures taken { IfOk result (λ matches. values_of matches ≡ without_dashes (drop 1 (map string_bytes words.now))) }
-    ensures refused { result ≡ Err WordFault.Usage → has_hyphen (without_dashes (drop 1 (map string_bytes words.now))) ≡ true }
+    ensures refused { result ≡ Err WordFault.Usage → has_hyphen (without_dashes (drop 1 (map string_bytes words.now)))
+        ≡ true }
 {
     let _count = count_of(words);
     let command = command_of(alloc, name)?;

@@ -16,7 +16,8 @@ IsIdle (Ready key pins) = pins ≡ 0
 
 -- the value of each frame is the outcome of its key
 abbrev pub HoldOutcomes : Layout → Option Files → Frames ℕ Outcome → Type 0
-HoldOutcomes layout told frames = (f key pins : ℕ) (found : Outcome) → slice_get frames.census f ≡ Some (Ready key pins) → slice_get frames.values f ≡ Some (Some found)
+HoldOutcomes layout told frames = (f key pins : ℕ) (found : Outcome)
+    → slice_get frames.census f ≡ Some (Ready key pins) → slice_get frames.values f ≡ Some (Some found)
     → IsOutcomeOf layout told key found
 
 -- frames between two turns

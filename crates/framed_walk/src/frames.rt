@@ -13,8 +13,8 @@ use subtree_outcome::{Outcome, WalkStop, read_subtree, root_tile};
 use tile_coords::Word;
 use tileset_json::Layout;
 
-// The frame with the outcome of a key, which has one pin until the turn ends. The outcome is read where no frame holds it.
-// An Err leaves no frame in use.
+// The frame with the outcome of a key, which has one pin until the turn ends. The outcome is read where no frame
+// holds it. An Err leaves no frame in use.
 pub(crate) fn hold<S: FileSource>(
     alloc: Global,
     files: &mut S,

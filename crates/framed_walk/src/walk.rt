@@ -1,6 +1,7 @@
 // The walk of a region over frames.
 ghost use Rattle.std.specs.Prelude.{◌≡◌, ◌≢◌, ◌≤◌, [], IfOk, IfErr, IfSome, Err};
 ghost use Rattle.implicit_tileset.specs.Scene.{scene_of};
+ghost use Rattle.frame_pool.specs.Frames.{most_frames};
 ghost use Rattle.scene_ports.specs.Counts.{Rose};
 ghost use Rattle.tile_coords.specs.Ends.{EndsAtRoot};
 ghost use Rattle.region_cursor.specs.Cursor.{IsWalkOf};
@@ -19,10 +20,11 @@ use subtree_outcome::{Outcome, WalkStop};
 use tile_coords::{Plan, WalkEnd, Word};
 use tileset_json::Layout;
 
-/// The answer for a plan that fits the layout, over this many frames (1 to 1,024): `words` becomes the words of its tiles in
-/// key order, at most 65,536, and the end is that of the answer, so never Partial (OGC 22-025r4, implicit tiling:
-/// availability). Each root on the walk is read, once for each level that its subtree gives where no frame holds it any
-/// more; a file that has a fault when it is read again ends the walk with it. An Err leaves `words` as it was.
+/// The answer for a plan that fits the layout, over this many frames (1 to 1,024): `words` becomes the words of its
+/// tiles in key order, at most 65,536, and the end is that of the answer, so never Partial (OGC 22-025r4, implicit
+/// tiling: availability). Each root on the walk is read, once for each level that its subtree gives where no frame
+/// holds it any more; a file that has a fault when it is read again ends the walk with it. An Err leaves `words` as
+/// it was.
 pub fn framed<S: FileSource>(
     alloc: Global,
     files: &mut S,
@@ -32,8 +34,9 @@ pub fn framed<S: FileSource>(
     words: &mut Vec<Word>,
 ) -> Result<WalkEnd, WalkStop>
     requires fits { FitsLayout layout.now plan.now }
-    requires frames { (1 ≤ frames) × (frames ≤ 1024) }
-    ensures answer { IfSome (S.told files.old) (λ all. IfOk result (IsAnswer (scene_of all layout.now) plan.now.region words.new.items)) }
+    requires frames { (1 ≤ frames) × (frames ≤ most_frames) }
+    ensures answer { IfSome (S.told files.old)
+        (λ all. IfOk result (IsAnswer (scene_of all layout.now) plan.now.region words.new.items)) }
     ensures found { IfOk result (λ end. AreFound layout.now.scheme words.new.items) }
     ensures end { IfOk result (EndsAtRoot layout.now.scheme) }
     ensures over { IfOk result (λ end. end ≢ WalkEnd.Partial) }
@@ -65,7 +68,8 @@ fn walk<S: FileSource>(
     requires begun { cursor.old ≡ begun layout.now cursor.old.region }
     requires region { IsRegionOf layout.now cursor.old.region }
     requires empty { words.old.items ≡ [] }
-    ensures answer { IfSome (S.told files.old) (λ all. IfOk result (IsAnswer (scene_of all layout.now) cursor.old.region words.new.items)) }
+    ensures answer { IfSome (S.told files.old)
+        (λ all. IfOk result (IsAnswer (scene_of all layout.now) cursor.old.region words.new.items)) }
     ensures found { IfOk result (λ end. AreFound layout.now.scheme words.new.items) }
     ensures end { IfOk result (EndsAtRoot layout.now.scheme) }
     ensures over { IfOk result (λ end. end ≢ WalkEnd.Partial) }

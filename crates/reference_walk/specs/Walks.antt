@@ -1,5 +1,6 @@
 -- For proofs and inner functions: how a walk goes on over some of its pairs, and how it ends (this project's own).
-use Rattle.std.specs.Prelude.{ℕ, ◌≡◌, ◌+◌, ◌%◌, ◌==◌, ◌<◌, ◌≤◌, Bool, true, false, List, [], ◌∷◌, ◌++◌, length, take, map, Some, None}
+use Rattle.std.specs.Prelude.{ℕ, ◌≡◌, ◌+◌, ◌%◌, ◌==◌, ◌<◌, ◌≤◌, Bool, true, false, List, [], ◌∷◌, ◌++◌, length, take}
+use Rattle.std.specs.Prelude.{map, Some, None}
 use Rattle.implicit_tiling.specs.declared.Scheme.{Scheme}
 use Rattle.implicit_tiling.specs.Tile.{Tile}
 use Rattle.implicit_tiling.specs.Region.{Region}
@@ -72,7 +73,8 @@ abbrev pub frontier_if : Bool → List ℕ → List ℕ → List ℕ
 frontier_if true roots next = next
 frontier_if false roots next = roots
 
--- what is known of a root when a level of its subtree is walked: it is on the walk, and below its own level its file has no fault
+-- what is known of a root when a level of its subtree is walked: it is on the walk, and below its own level its file
+-- has no fault
 pub record IsWalked (s : Scene) (region : Region) (level w : ℕ) : Type 0 where
   pub on_walk : is_on_walk s region (word_tile s.layout.scheme w) ≡ true
   pub no_fault : (level % s.layout.subtree_levels ≡ 0 → ⊥) → fault_of (s.outcome (word_tile s.layout.scheme w)) ≡ None

@@ -31,9 +31,15 @@ pub(crate) fn walk_level<S: FileSource>(
     requires roots { AreRoots layout.now (root_level layout.now level) roots.now }
     requires found { AreFound layout.now.scheme words.old.items }
     requires next { AreRoots layout.now (level + 1) next.old.items }
-    requires on_walk { IfSome (S.told files.old) (λ all. All (IsWalked (scene_of all layout.now) region.now level) roots.now) }
-    ensures walks { IfSome (S.told files.old) (λ all. IfOk result (Walks (scene_of all layout.now) region.now (map (word_pair layout.now.scheme level) roots.now) words.old.items words.new.items)) }
-    ensures roots { IfSome (S.told files.old) (λ all. IfOk result (λ end. end ≡ WalkEnd.Partial → map (word_tile layout.now.scheme) next.new.items ≡ map (word_tile layout.now.scheme) next.old.items ++ flat_map (λ w. next_roots (scene_of all layout.now) region.now level (word_tile layout.now.scheme w)) roots.now)) }
+    requires on_walk { IfSome (S.told files.old)
+        (λ all. All (IsWalked (scene_of all layout.now) region.now level) roots.now) }
+    ensures walks { IfSome (S.told files.old)
+        (λ all. IfOk result (Walks (scene_of all layout.now) region.now
+        (map (word_pair layout.now.scheme level) roots.now) words.old.items words.new.items)) }
+    ensures roots { IfSome (S.told files.old) (λ all. IfOk result (λ end. end ≡ WalkEnd.Partial
+        → map (word_tile layout.now.scheme) next.new.items ≡ map (word_tile layout.now.scheme) next.old.items
+        ++ flat_map (λ w. next_roots (scene_of all layout.now) region.now level (word_tile layout.now.scheme w))
+        roots.now)) }
     ensures found { IfOk result (λ end. AreFound layout.now.scheme words.new.items) }
     ensures next { IfOk result (λ end. AreRoots layout.now (level + 1) next.new.items) }
     ensures end { IfOk result (EndsAtRoot layout.now.scheme) }

@@ -1,5 +1,5 @@
-//! The reference: the definitions' plain program, which no command runs. It reads a region level by level, each root anew for
-//! each of its levels, and keeps nothing. What runs is compared with it on small tilesets.
+//! The reference: the definitions' plain program, which no command runs. It reads a region level by level, each root
+//! anew for each of its levels, and keeps nothing. What runs is compared with it on small tilesets.
 #![tactic(auto)]
 
 mod level;

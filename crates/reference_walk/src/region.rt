@@ -27,7 +27,8 @@ pub fn fresh<S: FileSource>(
     words: &mut Vec<Word>,
 ) -> Result<WalkEnd, WalkStop>
     requires { FitsLayout layout.now plan.now }
-    ensures answer { IfSome (S.told files.old) (λ all. IfOk result (IsAnswer (scene_of all layout.now) plan.now.region words.new.items)) }
+    ensures answer { IfSome (S.told files.old)
+        (λ all. IfOk result (IsAnswer (scene_of all layout.now) plan.now.region words.new.items)) }
     ensures found { IfOk result (λ end. AreFound layout.now.scheme words.new.items) }
     ensures end { IfOk result (EndsAtRoot layout.now.scheme) }
     ensures over { IfOk result (λ end. end ≢ WalkEnd.Partial) }
@@ -52,7 +53,8 @@ fn walk<S: FileSource>(
 ) -> Result<WalkEnd, WalkStop>
     requires region { IsRegionOf layout.now region.now }
     requires empty { words.old.items ≡ [] }
-    ensures answer { IfSome (S.told files.old) (λ all. IfOk result (IsAnswer (scene_of all layout.now) region.now words.new.items)) }
+    ensures answer { IfSome (S.told files.old)
+        (λ all. IfOk result (IsAnswer (scene_of all layout.now) region.now words.new.items)) }
     ensures found { IfOk result (λ end. AreFound layout.now.scheme words.new.items) }
     ensures end { IfOk result (EndsAtRoot layout.now.scheme) }
     ensures over { IfOk result (λ end. end ≢ WalkEnd.Partial) }

@@ -23,9 +23,9 @@ use tileset_json::Layout;
 // The most tiles of an answer (this project's own).
 const MOST_TILES: usize = 65536;
 
-/// One step of a walk: reads the subtree of a root, and appends the words of its tiles of one level of the tileset. In the
-/// last level of the subtree it also appends its child roots to `next`. The walk goes on where the end is Partial. An Err,
-/// and any other end, leave `next` with any roots.
+/// One step of a walk: reads the subtree of a root, and appends the words of its tiles of one level of the tileset.
+/// In the last level of the subtree it also appends its child roots to `next`. The walk goes on where the end is
+/// Partial. An Err, and any other end, leave `next` with any roots.
 pub(crate) fn step<S: FileSource>(
     alloc: Global,
     files: &mut S,
@@ -40,8 +40,12 @@ pub(crate) fn step<S: FileSource>(
     requires found { AreFound layout.now.scheme words.old.items }
     requires next { AreRoots layout.now (level + 1) next.old.items }
     requires on_walk { IfSome (S.told files.old) (λ all. IsWalked (scene_of all layout.now) region.now level root) }
-    ensures walks { IfSome (S.told files.old) (λ all. IfOk result (Walks (scene_of all layout.now) region.now (word_pair layout.now.scheme level root ∷ []) words.old.items words.new.items)) }
-    ensures roots { IfSome (S.told files.old) (λ all. IfOk result (λ end. end ≡ WalkEnd.Partial → map (word_tile_of layout.now.scheme) next.new.items ≡ map (word_tile_of layout.now.scheme) next.old.items ++ next_roots (scene_of all layout.now) region.now level (word_tile_of layout.now.scheme root))) }
+    ensures walks { IfSome (S.told files.old)
+        (λ all. IfOk result (Walks (scene_of all layout.now) region.now
+        (word_pair layout.now.scheme level root ∷ []) words.old.items words.new.items)) }
+    ensures roots { IfSome (S.told files.old) (λ all. IfOk result (λ end. end ≡ WalkEnd.Partial
+        → map (word_tile_of layout.now.scheme) next.new.items ≡ map (word_tile_of layout.now.scheme) next.old.items
+        ++ next_roots (scene_of all layout.now) region.now level (word_tile_of layout.now.scheme root))) }
     ensures found { IfOk result (λ end. AreFound layout.now.scheme words.new.items) }
     ensures next { IfOk result (λ end. AreRoots layout.now (level + 1) next.new.items) }
     ensures end { IfOk result (EndsAtRoot layout.now.scheme) }
@@ -60,8 +64,8 @@ pub(crate) fn step<S: FileSource>(
     }
 }
 
-// Appends the words of a local level's tiles in the region, as far as an answer holds them, and in the last level the child
-// roots.
+// Appends the words of a local level's tiles in the region, as far as an answer holds them, and in the last level the
+// child roots.
 fn append(
     subtree: &Subtree,
     region: &Region,
@@ -72,7 +76,8 @@ fn append(
     requires local { local < subtree.now.levels }
     requires few { length words.old.items ≤ most_tiles }
     ensures within_limits { IsSubtree subtree.now }
-    ensures appended { IfOk result (Appends subtree.now region.now local words.old.items words.new.items next.old.items next.new.items) }
+    ensures appended { IfOk result
+        (Appends subtree.now region.now local words.old.items words.new.items next.old.items next.new.items) }
 {
     let last = subtree.levels - 1;
     let room = MOST_TILES - words.len();

@@ -175,8 +175,8 @@ fn words_of(alloc: Global, layout: &Layout, level: u32, most: u32) -> Result<Vec
 
 #[test]
 fn walks(rt: HostRuntime) -> Result<(), Fail> {
-    // the levels in all, the region's level and greatest coordinates, the frames, the fetch that fails, and the end, the
-    // fetches, the words, and whether a walk without frames gives the same
+    // the levels in all, the region's level and greatest coordinates, the frames, the fetch that fails, and the end,
+    // the fetches, the words, and whether a walk without frames gives the same
     let complete = Ok(WalkEnd::Complete);
     let rows: [(
         u32,

@@ -1,5 +1,6 @@
 -- The state of a paused walk (this project's own).
-use Rattle.std.specs.Prelude.{ℕ, ◌≡◌, ◌+◌, ◌-◌, ◌%◌, ◌^◌, ◌<◌, ◌≤◌, ◌==◌, Bool, false, List, length, Option, Some, slice_get, slice_index}
+use Rattle.std.specs.Prelude.{ℕ, ◌≡◌, ◌+◌, ◌-◌, ◌%◌, ◌^◌, ◌<◌, ◌≤◌, ◌==◌, Bool, false, List, length, Option, Some}
+use Rattle.std.specs.Prelude.{slice_get, slice_index}
 use Rattle.std.specs.List.{All}
 use Rattle.implicit_tiling.specs.declared.Scheme.{Scheme}
 use Rattle.implicit_tiling.specs.Limits.{most_levels, most_contents}
@@ -12,9 +13,9 @@ use Rattle.implicit_tiling.specs.Code.{word, word_tile, word_level, word_mask, I
 use Rattle.subtree_outcome.specs.declared.outcome.Outcome.{Outcome}
 use Rattle.subtree_outcome.specs.declared.outcome.Outcome.TheVariants.{Good, Bad}
 
--- Of the layout the scheme, the levels of a subtree and in all, and the number of contents; the region; the level of the
--- next step and the place of its root among the roots of that level's subtrees; the words of these roots and of the roots
--- below them that are found, with mask 0; and how many tiles were given.
+-- Of the layout the scheme, the levels of a subtree and in all, and the number of contents; the region; the level of
+-- the next step and the place of its root among the roots of that level's subtrees; the words of these roots and of
+-- the roots below them that are found, with mask 0; and how many tiles were given.
 pub record Cursor : Type 0 where
   pub scheme : Scheme
   pub subtree_levels : ℕ

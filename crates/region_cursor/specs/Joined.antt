@@ -17,7 +17,8 @@ abbrev pub tiles_of_steps : List Step → List Tile
 tiles_of_steps done = flat_map (λ step. step.tiles) done
 
 -- some steps are made: the words are those of their tiles, and the end is that of the last one
-pub record HasWalked (s : Scene) (region : Region) (c : Cursor) (next : Option ℕ) (words : List ℕ) (end : WalkEnd) : Type 0 where
+pub record HasWalked (s : Scene) (region : Region) (c : Cursor) (next : Option ℕ) (words : List ℕ)
+    (end : WalkEnd) : Type 0 where
   pub made : ℕ
   pub at : IsAt s region made c
   pub next_is : IsNextKey s region made next

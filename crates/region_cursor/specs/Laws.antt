@@ -9,15 +9,18 @@ use Rattle.subtree_outcome.specs.Outcomes.{IsOutcomeAt}
 use Rattle.subtree_outcome.specs.declared.outcome.Outcome.{Outcome}
 
 abbrev pub WalksStay : Type 0
-WalksStay = (layout : Layout) (region : Region) (old new : Cursor) → IsWalkOf layout region old → IsSameWalk old new → IsWalkOf layout region new
+WalksStay = (layout : Layout) (region : Region) (old new : Cursor) → IsWalkOf layout region old → IsSameWalk old new
+    → IsWalkOf layout region new
 
 abbrev pub NextRootIsOfTheKey : Type 0
 NextRootIsOfTheKey = (c : Cursor) (key : ℕ) → cursor_key c ≡ Some key → next_root c ≡ word_tile c.scheme key
 
 abbrev pub OutcomesFit : Type 0
-OutcomesFit = (layout : Layout) (region : Region) (c : Cursor) (key : ℕ) (found : Outcome) → IsWalkOf layout region c → cursor_key c ≡ Some key → IsRootKey c key
+OutcomesFit = (layout : Layout) (region : Region) (c : Cursor) (key : ℕ) (found : Outcome) → IsWalkOf layout region c
+    → cursor_key c ≡ Some key → IsRootKey c key
     → IsOutcomeAt layout (word_tile layout.scheme key) found → Fits c found
 
 abbrev pub NextKeysAreOfRootTiles : Type 0
-NextKeysAreOfRootTiles = (layout : Layout) (region : Region) (c : Cursor) (key : ℕ) → IsWalkOf layout region c → IsRootKey c key
+NextKeysAreOfRootTiles = (layout : Layout) (region : Region) (c : Cursor) (key : ℕ) → IsWalkOf layout region c
+    → IsRootKey c key
     → IsRootOf layout (word_tile layout.scheme key)

@@ -1,5 +1,6 @@
 -- What a step does to the state of a walk, and what it gives, whatever the outcomes are (this project's own).
-use Rattle.std.specs.Prelude.{ℕ, ◌+◌, ◌-◌, ◌==◌, ◌&&◌, ◌++◌, not, nat_lt, Bool, true, false, List, [], ◌∷◌, length, take, Option, Some, None, slice_index}
+use Rattle.std.specs.Prelude.{ℕ, ◌+◌, ◌-◌, ◌==◌, ◌&&◌, ◌++◌, not, nat_lt, Bool, true, false, List, [], ◌∷◌, length}
+use Rattle.std.specs.Prelude.{take, Option, Some, None, slice_index}
 use Rattle.implicit_tiling.specs.Tile.{root}
 use Rattle.implicit_tiling.specs.Region.{Region}
 use Rattle.implicit_tiling.specs.Scene.{Layout}
@@ -32,7 +33,8 @@ begun layout region = record {
 abbrev pub over : Cursor → Cursor
 over c = record c { position = 0; roots = []; next_roots = [] }
 
--- the next level: after the region's own there is none, and below the last local level the roots are those that were found
+-- the next level: after the region's own there is none, and below the last local level the roots are those that were
+-- found
 abbrev pub level_after : Bool → Bool → Cursor → Cursor
 level_after true last c = over c
 level_after false true c = record c { level = c.level + 1; position = 0; roots = c.next_roots; next_roots = [] }
@@ -69,7 +71,10 @@ children_if true roots children = roots ++ children
 children_if false roots children = roots
 
 abbrev pub with_children : Bool → Cursor → List ℕ → Cursor
-with_children more c children = record c { next_roots = children_if (not more && is_last_local c) c.next_roots children }
+with_children more c children = record c {
+  next_roots = children_if (not more
+      && is_last_local c) c.next_roots children;
+}
 
 abbrev pub counted : List ℕ → Cursor → Cursor
 counted words c = record c { count = c.count + length words }

@@ -1,5 +1,6 @@
 // The state of a paused walk, and its step.
-ghost use Rattle.std.specs.Prelude.{ℕ, false, true, ◌≡◌, ◌+◌, ◌-◌, ◌^◌, ◌<◌, ◌≤◌, ◌==◌, [], length, drop, IfOk, IfErr, IfSome, IsSome};
+ghost use Rattle.std.specs.Prelude.{ℕ, false, true, ◌≡◌, ◌+◌, ◌-◌, ◌^◌, ◌<◌, ◌≤◌, ◌==◌, [], length, drop, IfOk};
+ghost use Rattle.std.specs.Prelude.{IfErr, IfSome, IsSome};
 ghost use Rattle.std.specs.List.{All};
 ghost use Rattle.implicit_tiling.specs.Scene.{Scene};
 ghost use Rattle.implicit_tiling.specs.Subtree.{IsSubtree};
@@ -8,8 +9,11 @@ ghost use Rattle.implicit_tiling.specs.Nodes.{child_words};
 ghost use Rattle.tile_coords.specs.Ends.{EndsAtRoot};
 ghost use Rattle.subtree_outcome.specs.Outcomes.{outcome_seen};
 ghost use Rattle.walk_laws.specs.Plans.{FitsLayout};
-ghost use Rattle.region_cursor.specs.Cursor.{local_level_of, is_last_local as is_last_local_of, cursor_key, next_root, Fits, FitsSubtree, HasNoOrphan, IsCursor, IsRootKey, IsTileWord, IsWalkOf, IsSameWalk};
-ghost use Rattle.region_cursor.specs.Moves.{begun, over, next_level, level_after, moved_on, went_on, with_children, made, made_good, made_bad};
+ghost use Rattle.region_cursor.specs.Cursor.{local_level_of, is_last_local as is_last_local_of, cursor_key};
+ghost use Rattle.region_cursor.specs.Cursor.{next_root, Fits, FitsSubtree, HasNoOrphan, IsCursor, IsRootKey};
+ghost use Rattle.region_cursor.specs.Cursor.{IsTileWord, IsWalkOf, IsSameWalk};
+ghost use Rattle.region_cursor.specs.Moves.{begun, over, next_level, level_after, moved_on, went_on, with_children};
+ghost use Rattle.region_cursor.specs.Moves.{made, made_good, made_bad};
 ghost use Rattle.region_cursor.specs.Walked.{IsAt, IsNextKey, GivesStep};
 
 use availability::Subtree;
@@ -26,8 +30,8 @@ use tileset_json::Layout;
 const MOST_TILES: usize = 65536;
 
 /// A walk of a region that can be stopped between any two steps: which pair of a level and a subtree root the next step
-/// is made of, the roots of that level's subtrees and, as far as they are found, of those below them, and how many tiles
-/// were given. It holds no subtree (this project's own).
+/// is made of, the roots of that level's subtrees and, as far as they are found, of those below them, and how many
+/// tiles were given. It holds no subtree (this project's own).
 #[derive(Debug, Drop)]
 pub struct CursorState {
     // The layout's numbers: each subtree that is read agrees with them.
@@ -50,9 +54,35 @@ impl Model for CursorState {
 
     ghost Value = { Cursor };
 
-    ghost view = { λ c. record { scheme = c.scheme; subtree_levels = c.subtree_levels; levels = c.levels; contents = c.contents; region = c.region; level = c.level; position = c.position; roots = c.roots.items; next_roots = c.next_roots.items; count = c.count } };
+    ghost view = { λ c. record {
+      scheme = c.scheme;
+      subtree_levels = c.subtree_levels;
+      levels = c.levels;
+      contents =
+          c.contents;
+      region = c.region;
+      level = c.level;
+      position = c.position;
+      roots = c.roots.items;
+      next_roots =
+          c.next_roots.items;
+      count = c.count;
+    } };
 
-    ghost invariant = { λ c. IsCursor (record { scheme = c.scheme; subtree_levels = c.subtree_levels; levels = c.levels; contents = c.contents; region = c.region; level = c.level; position = c.position; roots = c.roots.items; next_roots = c.next_roots.items; count = c.count }) };
+    ghost invariant = { λ c. IsCursor
+        (record {
+          scheme = c.scheme;
+          subtree_levels = c.subtree_levels;
+          levels = c.levels;
+          contents = c.contents;
+          region = c.region;
+          level = c.level;
+          position = c.position;
+          roots = c.roots.items;
+          next_roots =
+              c.next_roots.items;
+          count = c.count;
+        }) };
 }
 
 impl CursorState {
@@ -89,10 +119,10 @@ impl CursorState {
         self.key()
     }
 
-    /// Makes the next step from the outcome of the root of the next key: `words` becomes the tiles of one local level of
-    /// its subtree, or the first of them up to 65,536 in all with TooMany, or nothing with Fault where the outcome is Bad,
-    /// also below the root's own level: the file may have changed since it was read there. Memory is the one error; it
-    /// leaves the walk and `words` as they were.
+    /// Makes the next step from the outcome of the root of the next key: `words` becomes the tiles of one local level
+    /// of its subtree, or the first of them up to 65,536 in all with TooMany, or nothing with Fault where the outcome
+    /// is Bad, also below the root's own level: the file may have changed since it was read there. Memory is the one
+    /// error; it leaves the walk and `words` as they were.
     pub fn step(&mut self, outcome: &Outcome, words: &mut Vec<Word>) -> Result<WalkEnd, AllocError>
         requires key { IsSome (cursor_key self.old) }
         requires fits { Fits self.old outcome.now }
@@ -108,7 +138,9 @@ impl CursorState {
         ensures unchanged { IfErr result (λ e. self.new ≡ self.old) }
         ensures same_words { IfErr result (λ e. words.new.items ≡ words.old.items) }
 
-        ensures scene { IfOk result (λ end. (s : Scene) (k : ℕ) → IsAt s self.old.region k self.old → outcome_seen outcome.now ≡ s.outcome (next_root self.old) → HasNoOrphan outcome.now → GivesStep s self.old.region k words.new.items end × IsAt s self.old.region (k + 1) self.new) }
+        ensures scene { IfOk result (λ end. (s : Scene) (k : ℕ) → IsAt s self.old.region k self.old
+            → outcome_seen outcome.now ≡ s.outcome (next_root self.old) → HasNoOrphan outcome.now
+            → GivesStep s self.old.region k words.new.items end × IsAt s self.old.region (k + 1) self.new) }
     {
         match outcome {
             Outcome::Good(subtree) => self.step_good(subtree, words),
@@ -194,7 +226,8 @@ impl CursorState {
     fn take_children(&mut self, subtree: &Subtree, more: bool) -> Result<(), AllocError>
         requires limits { IsSubtree subtree.now }
         requires fits { FitsSubtree self.old subtree.now }
-        ensures taken { IfOk result (λ done. self.new ≡ with_children more self.old (child_words subtree.now self.old.region)) }
+        ensures taken { IfOk result
+            (λ done. self.new ≡ with_children more self.old (child_words subtree.now self.old.region)) }
         ensures unchanged { IfErr result (λ e. self.new ≡ self.old) }
     {
         if more || !self.is_last_local() {

@@ -10,7 +10,12 @@ use Rattle.region_scan.specs.Found.{first_index}
 
 -- the tile whose coordinates are a root's, and behind them those of a tile as it stands below level 0
 abbrev pub below : Tile → Tile → Tile
-below root t = record { level = root.level + t.level; x = root.x * 2 ^ t.level + t.x; y = root.y * 2 ^ t.level + t.y; z = root.z * 2 ^ t.level + t.z }
+below root t = record {
+  level = root.level + t.level;
+  x = root.x * 2 ^ t.level + t.x;
+  y = root.y * 2 ^ t.level + t.y;
+  z = root.z * 2 ^ t.level + t.z;
+}
 
 -- a node is a tile of its level, l levels below the root
 pub record IsNode (s : Subtree) (l m : ℕ) (t : Tile) : Type 0 where
@@ -21,11 +26,13 @@ pub record IsNode (s : Subtree) (l m : ℕ) (t : Tile) : Type 0 where
   pub above : ancestor l t ≡ s.root
 
 abbrev pub EachNodeIsATile : Type 0
-EachNodeIsATile = (s : Subtree) (l m : ℕ) → IsTile s.scheme s.root → m < branching s.scheme ^ l → IsNode s l m (node_at s l m)
+EachNodeIsATile = (s : Subtree) (l m : ℕ) → IsTile s.scheme s.root → m < branching s.scheme ^ l
+    → IsNode s l m (node_at s l m)
 
 -- for one mask a node's word rises with its local index
 abbrev pub WordsRise : Type 0
-WordsRise = (s : Subtree) (l m n mask : ℕ) → m < n → n < branching s.scheme ^ l → word s.scheme (node_at s l m) mask < word s.scheme (node_at s l n) mask
+WordsRise = (s : Subtree) (l m n mask : ℕ) → m < n → n < branching s.scheme ^ l
+    → word s.scheme (node_at s l m) mask < word s.scheme (node_at s l n) mask
 
 -- a coordinate k levels above the region's level is in its box
 pub record IsBetween (k lo hi c : ℕ) : Type 0 where
@@ -61,7 +68,8 @@ pub record IsNodeWord (s : Subtree) (region : Region) (l masks w : ℕ) : Type 0
   pub in_region : is_in region (word_tile s.scheme w) ≡ true
   pub above : ancestor l (word_tile s.scheme w) ≡ s.root
 
--- the words that are found are those of nodes, with a bit for each content at most; those of child roots have no contents
+-- the words that are found are those of nodes, with a bit for each content at most; those of child roots have no
+-- contents
 pub record WordsAreFound (s : Subtree) (region : Region) : Type 0 where
   pub tiles : (l : ℕ) → All (IsNodeWord s region l (2 ^ length s.contents)) (level_words s region l)
   pub children : All (IsNodeWord s region s.levels 1) (child_words s region)
@@ -71,7 +79,8 @@ FoundWordsAreWords = (s : Subtree) (region : Region) → IsSubtree s → WordsAr
 
 -- the key of each word's tile is below those of all later ones
 abbrev pub RiseInKeyOrder : Subtree → List ℕ → Type 0
-RiseInKeyOrder s words = AllPairs (λ v w. is_key_below s.scheme (word_tile s.scheme v) (word_tile s.scheme w) ≡ true) words
+RiseInKeyOrder s words = AllPairs (λ v w. is_key_below s.scheme (word_tile s.scheme v) (word_tile s.scheme w)
+    ≡ true) words
 
 pub record WordsRiseInKeyOrder (s : Subtree) (region : Region) : Type 0 where
   pub tiles : (l : ℕ) → RiseInKeyOrder s (level_words s region l)

@@ -20,7 +20,8 @@ pub fn level_tiles(
     out: &mut Vec<Word>,
 ) -> Result<bool, AllocError>
     requires { local < subtree.now.levels }
-    ensures appended { IfOk result (λ more. out.new.items ≡ out.old.items ++ take limit (level_words subtree.now region.now local)) }
+    ensures appended { IfOk result
+        (λ more. out.new.items ≡ out.old.items ++ take limit (level_words subtree.now region.now local)) }
     ensures more { IfOk result (λ more. more ≡ nat_lt limit (length (level_words subtree.now region.now local))) }
     ensures unchanged { IfErr result (λ e. out.new.items ≡ out.old.items) }
 {
@@ -45,7 +46,8 @@ fn append_tiles(
 ) -> Result<bool, AllocError>
     requires local { local < subtree.now.levels }
     requires kept { subtree.now.root.level + local < subtree.now.cut }
-    ensures appended { IfOk result (λ more. out.new.items ≡ out.old.items ++ take limit (level_words subtree.now region.now local)) }
+    ensures appended { IfOk result
+        (λ more. out.new.items ≡ out.old.items ++ take limit (level_words subtree.now region.now local)) }
     ensures more { IfOk result (λ more. more ≡ nat_lt limit (length (level_words subtree.now region.now local))) }
     ensures begun { IfErr result (λ e. Extends out.old.items out.new.items) }
 {

@@ -1,5 +1,6 @@
 // Laws of a subtree's nodes and of the words that are found (this project's own).
-ghost use Rattle.region_scan.specs.NodeLaws.{EachNodeIsATile, WordsRise, NodesInTheRegion, NodeChildren, FoundWordsAreWords, FoundWordsRise};
+ghost use Rattle.region_scan.specs.NodeLaws.{EachNodeIsATile, WordsRise, NodesInTheRegion, NodeChildren};
+ghost use Rattle.region_scan.specs.NodeLaws.{FoundWordsAreWords, FoundWordsRise};
 
 /// A node is a tile of its level below the root: its index is the level's first and then its own, and its coordinates
 /// are the root's and then its own.

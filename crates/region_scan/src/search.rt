@@ -1,4 +1,5 @@
-// The next node of a level that is in a region: bits are searched by words, and what is outside is passed over by blocks.
+// The next node of a level that is in a region: bits are searched by words, and what is outside is passed over by
+// blocks.
 ghost use Rattle.std.specs.Prelude.{◌≡◌, ◌+◌, ◌-◌, ◌/◌, ◌^◌, ◌<◌, ◌≤◌, ◌&&◌, false, MatchOption};
 ghost use Rattle.implicit_tiling.specs.Tile.{branching};
 ghost use Rattle.implicit_tiling.specs.Region.{is_in};
@@ -11,8 +12,8 @@ use availability::Subtree;
 use tile_coords::Region;
 use tile_word::nodes_at;
 
-/// The least index from `from` on of a node of a local level that is there and in the region. None exactly where there is
-/// none. `first` is the index of the level's first node.
+/// The least index from `from` on of a node of a local level that is there and in the region. None exactly where
+/// there is none. `first` is the index of the level's first node.
 pub(crate) fn next_tile(
     subtree: &Subtree,
     local: u32,
@@ -24,7 +25,9 @@ pub(crate) fn next_tile(
     requires first { first ≡ first_index subtree.now local }
     requires kept { subtree.now.root.level + local < subtree.now.cut }
     requires from { from ≤ branching subtree.now.scheme ^ local }
-    ensures { MatchOption result (HasNoOne (is_tile_in subtree.now region.now local) from (branching subtree.now.scheme ^ local)) (IsFirstOne (is_tile_in subtree.now region.now local) from (branching subtree.now.scheme ^ local)) }
+    ensures { MatchOption result (HasNoOne (is_tile_in subtree.now region.now local) from
+        (branching subtree.now.scheme ^ local)) (IsFirstOne (is_tile_in subtree.now region.now local) from
+        (branching subtree.now.scheme ^ local)) }
 {
     let mut at = from;
     while let Some(index) = subtree.next_tile(local, at) {
@@ -36,13 +39,15 @@ pub(crate) fn next_tile(
     None
 }
 
-/// The least index from `from` on of a child root whose child bit is 1, whose parent is there, and which is in the region.
-/// None exactly where there is none. `first` is the index of the first child root.
+/// The least index from `from` on of a child root whose child bit is 1, whose parent is there, and which is in the
+/// region. None exactly where there is none. `first` is the index of the first child root.
 pub(crate) fn next_child(subtree: &Subtree, first: u64, region: &Region, from: u64) -> Option<u64>
     requires first { first ≡ first_index subtree.now subtree.now.levels }
     requires kept { subtree.now.root.level + subtree.now.levels < subtree.now.cut }
     requires from { from ≤ branching subtree.now.scheme ^ subtree.now.levels }
-    ensures { MatchOption result (HasNoOne (is_child_in subtree.now region.now) from (branching subtree.now.scheme ^ subtree.now.levels)) (IsFirstOne (is_child_in subtree.now region.now) from (branching subtree.now.scheme ^ subtree.now.levels)) }
+    ensures { MatchOption result (HasNoOne (is_child_in subtree.now region.now) from
+        (branching subtree.now.scheme ^ subtree.now.levels)) (IsFirstOne (is_child_in subtree.now region.now) from
+        (branching subtree.now.scheme ^ subtree.now.levels)) }
 {
     let mut at = from;
     while let Some(index) = next_child_of_tile(subtree, at) {
@@ -58,7 +63,9 @@ pub(crate) fn next_child(subtree: &Subtree, first: u64, region: &Region, from: u
 // the children of those up to the next one are passed over.
 fn next_child_of_tile(subtree: &Subtree, from: u64) -> Option<u64>
     requires { from ≤ branching subtree.now.scheme ^ subtree.now.levels }
-    ensures { MatchOption result (HasNoOne (is_child subtree.now) from (branching subtree.now.scheme ^ subtree.now.levels)) (IsFirstOne (is_child subtree.now) from (branching subtree.now.scheme ^ subtree.now.levels)) }
+    ensures { MatchOption result (HasNoOne (is_child subtree.now) from
+        (branching subtree.now.scheme ^ subtree.now.levels)) (IsFirstOne (is_child subtree.now) from
+        (branching subtree.now.scheme ^ subtree.now.levels)) }
 {
     let children = nodes_at(subtree.scheme, 1);
     let mut at = from;
@@ -73,8 +80,8 @@ fn next_child_of_tile(subtree: &Subtree, from: u64) -> Option<u64>
     None
 }
 
-// The end of a block of nodes which begins at or before a node that is outside the region, and is outside as a whole: the
-// nodes below the highest one above that is outside, too.
+// The end of a block of nodes which begins at or before a node that is outside the region, and is outside as a whole:
+// the nodes below the highest one above that is outside, too.
 fn outside_until(subtree: &Subtree, local: u32, region: &Region, index: u64) -> u64
     requires local { local ≤ subtree.now.levels }
     requires kept { subtree.now.root.level + local < subtree.now.cut }

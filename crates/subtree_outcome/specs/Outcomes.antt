@@ -3,6 +3,7 @@ use Rattle.std.specs.Prelude.{ℕ, ◌≡◌, ◌≤◌, false, Option, IfSome}
 use Rattle.implicit_tiling.specs.Files.{Files}
 use Rattle.implicit_tiling.specs.Code.{word_tile}
 use Rattle.implicit_tileset.specs.Scene.{scene_of}
+use Rattle.implicit_tiling.specs.Limits.{most_subtree_fault}
 use Rattle.implicit_tiling.specs.Tile.{Tile}
 use Rattle.implicit_tiling.specs.Scene.{Layout, good, bad, Outcome as outcome}
 use Rattle.implicit_tiling.specs.Subtree.{Subtree, IsOf, has_orphan, bits_of}
@@ -23,7 +24,7 @@ pub record IsFoundAt (layout : Layout) (root : Tile) (s : Subtree) : Type 0 wher
 -- what is read of any source, also of one that doesn't tell its files
 abbrev pub IsOutcomeAt : Layout → Tile → Outcome → Type 0
 IsOutcomeAt layout root (Good s) = IsFoundAt layout root s
-IsOutcomeAt layout root (Bad n) = (1 ≤ n) × (n ≤ 18)
+IsOutcomeAt layout root (Bad n) = (1 ≤ n) × (n ≤ most_subtree_fault)
 
 -- what is read for a key from any source; and of files that are told, the outcome of the scene
 pub record IsOutcomeOf (layout : Layout) (told : Option Files) (key : ℕ) (found : Outcome) : Type 0 where

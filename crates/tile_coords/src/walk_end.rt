@@ -1,6 +1,6 @@
 // Tile words, how a walk ends, and what a check finds.
 
-/// A tile in one number: its level, a mask of its contents and its Morton index. Only `availability` knows the
+/// A tile in one number: its level, a mask of its contents and its Morton index. Only `tile_word` knows the
 /// places of these parts.
 pub type Word = u64;
 

@@ -2,6 +2,7 @@
 use Rattle.std.specs.Prelude.{ℕ, ◌≡◌, ◌+◌, ◌<◌, ◌≤◌, true, false, List, length, map}
 use Rattle.std.specs.List.{filter_map, All}
 use Rattle.implicit_tiling.specs.declared.Scheme.{Scheme}
+use Rattle.implicit_tiling.specs.Limits.{most_subtree_fault}
 use Rattle.implicit_tiling.specs.Region.{Region}
 use Rattle.implicit_tiling.specs.Scene.{Scene}
 use Rattle.implicit_tiling.specs.Answer.{is_on_walk, fault_at}
@@ -22,7 +23,7 @@ IsOnWalk s region w = is_on_walk s region (word_tile s.layout.scheme w) ≡ true
 pub record IsFault (scheme : Scheme) (fault : FoundFault) : Type 0 where
   pub is_word : IsWord scheme fault.root
   pub some : 1 ≤ fault.number
-  pub most : fault.number ≤ 18
+  pub most : fault.number ≤ most_subtree_fault
 
 abbrev pub AreFaults : Scheme → List FoundFault → Type 0
 AreFaults scheme found = All (IsFault scheme) found

@@ -1,5 +1,6 @@
 // The check of all subtree files of a tileset.
-ghost use Rattle.std.specs.Prelude.{◌≡◌, ◌+◌, ◌-◌, ◌*◌, ◌≤◌, ◌++◌, ◌∷◌, [], map, take, length, false, IfOk, IfErr, IfSome, Err};
+ghost use Rattle.std.specs.Prelude.{◌≡◌, ◌+◌, ◌-◌, ◌*◌, ◌≤◌, ◌++◌, ◌∷◌, [], map, take, length, false, IfOk, IfErr};
+ghost use Rattle.std.specs.Prelude.{IfSome, Err};
 ghost use Rattle.std.specs.List.{All, flat_map};
 ghost use Rattle.implicit_tiling.specs.Checked.{most_roots, checked};
 ghost use Rattle.implicit_tiling.specs.Subtree.{IsSubtree};
@@ -26,15 +27,16 @@ use tileset_json::Layout;
 const MOST_ROOTS: u64 = 65536;
 
 /// Looks at the subtree roots that are reached, in key order, up to 65,536 of them, each read once: `found` becomes the
-/// faults of their files, in that order. A faulty file has no roots below it (OGC 22-025r4, implicit tiling: child subtree
-/// availability). An Err leaves `found` as it was.
+/// faults of their files, in that order. A faulty file has no roots below it (OGC 22-025r4, implicit tiling: child
+/// subtree availability). An Err leaves `found` as it was.
 pub fn check_all<S: FileSource>(
     alloc: Global,
     files: &mut S,
     layout: &Layout,
     found: &mut Vec<FoundFault>,
 ) -> Result<CheckEnd, WalkStop>
-    ensures checked { IfSome (S.told files.old) (λ all. IfOk result (IsCheck (scene_of all layout.now) found.new.items)) }
+    ensures checked { IfSome (S.told files.old)
+        (λ all. IfOk result (IsCheck (scene_of all layout.now) found.new.items)) }
     ensures faults { IfOk result (λ end. AreFaults layout.now.scheme found.new.items) }
     ensures few { IfOk result (λ end. end.looked ≤ most_roots) }
     ensures unchanged { IfErr result (λ stop. found.new.items ≡ found.old.items) }
@@ -77,7 +79,8 @@ fn check<S: FileSource>(
 ) -> Result<CheckEnd, WalkStop>
     requires region { region.now ≡ whole layout.now.scheme layout.now.levels }
     requires empty { found.old.items ≡ [] }
-    ensures checked { IfSome (S.told files.old) (λ all. IfOk result (IsCheck (scene_of all layout.now) found.new.items)) }
+    ensures checked { IfSome (S.told files.old)
+        (λ all. IfOk result (IsCheck (scene_of all layout.now) found.new.items)) }
     ensures faults { IfOk result (λ end. AreFaults layout.now.scheme found.new.items) }
     ensures few { IfOk result (λ end. end.looked ≤ most_roots) }
     ensures failed { result ≡ Err WalkStop.ReadFault → Rose (S.faults files.old) (S.faults files.new) }
@@ -119,10 +122,17 @@ fn check_roots<S: FileSource>(
     requires next { AreRoots layout.now (turn * layout.now.subtree_levels + layout.now.subtree_levels) next.old.items }
     requires faults { AreFaults layout.now.scheme found.old.items }
     requires few { looked ≤ most_roots }
-    requires on_walk { IfSome (S.told files.old) (λ all. All (IsOnWalk (scene_of all layout.now) region.now) roots.now) }
-    ensures found { IfSome (S.told files.old) (λ all. IfOk result (λ end. found.new.items ≡ found.old.items ++ found_faults (scene_of all layout.now) (take (end.looked - looked) roots.now))) }
-    ensures roots { IfSome (S.told files.old) (λ all. IfOk result (λ end. end.more ≡ false → map (word_tile layout.now.scheme) next.new.items ≡ map (word_tile layout.now.scheme) next.old.items ++ flat_map (λ w. roots_below (scene_of all layout.now) region.now (word_tile layout.now.scheme w)) roots.now)) }
-    ensures next { IfOk result (λ end. AreRoots layout.now (turn * layout.now.subtree_levels + layout.now.subtree_levels) next.new.items) }
+    requires on_walk { IfSome (S.told files.old)
+        (λ all. All (IsOnWalk (scene_of all layout.now) region.now) roots.now) }
+    ensures found { IfSome (S.told files.old)
+        (λ all. IfOk result (λ end. found.new.items ≡ found.old.items ++ found_faults (scene_of all layout.now)
+        (take (end.looked - looked) roots.now))) }
+    ensures roots { IfSome (S.told files.old) (λ all. IfOk result (λ end. end.more ≡ false
+        → map (word_tile layout.now.scheme) next.new.items ≡ map (word_tile layout.now.scheme) next.old.items
+        ++ flat_map (λ w. roots_below (scene_of all layout.now) region.now (word_tile layout.now.scheme w))
+        roots.now)) }
+    ensures next { IfOk result
+        (λ end. AreRoots layout.now (turn * layout.now.subtree_levels + layout.now.subtree_levels) next.new.items) }
     ensures faults { IfOk result (λ end. AreFaults layout.now.scheme found.new.items) }
     ensures counted { IfOk result (Counts looked (length roots.now)) }
     ensures failed { result ≡ Err WalkStop.ReadFault → Rose (S.faults files.old) (S.faults files.new) }
@@ -160,9 +170,15 @@ fn check_root<S: FileSource>(
     requires next { AreRoots layout.now (word_level root + layout.now.subtree_levels) next.old.items }
     requires faults { AreFaults layout.now.scheme found.old.items }
     requires on_walk { IfSome (S.told files.old) (λ all. IsOnWalk (scene_of all layout.now) region.now root) }
-    ensures found { IfSome (S.told files.old) (λ all. IfOk result (λ done. found.new.items ≡ found.old.items ++ found_faults (scene_of all layout.now) (root ∷ []))) }
-    ensures roots { IfSome (S.told files.old) (λ all. IfOk result (λ done. map (word_tile layout.now.scheme) next.new.items ≡ map (word_tile layout.now.scheme) next.old.items ++ roots_below (scene_of all layout.now) region.now (word_tile layout.now.scheme root))) }
-    ensures next { IfOk result (λ done. AreRoots layout.now (word_level root + layout.now.subtree_levels) next.new.items) }
+    ensures found { IfSome (S.told files.old)
+        (λ all. IfOk result (λ done. found.new.items ≡ found.old.items ++ found_faults (scene_of all layout.now)
+        (root ∷ []))) }
+    ensures roots { IfSome (S.told files.old)
+        (λ all. IfOk result (λ done. map (word_tile layout.now.scheme) next.new.items
+        ≡ map (word_tile layout.now.scheme) next.old.items ++ roots_below (scene_of all layout.now) region.now
+        (word_tile layout.now.scheme root))) }
+    ensures next { IfOk result
+        (λ done. AreRoots layout.now (word_level root + layout.now.subtree_levels) next.new.items) }
     ensures faults { IfOk result (λ done. AreFaults layout.now.scheme found.new.items) }
     ensures failed { result ≡ Err WalkStop.ReadFault → Rose (S.faults files.old) (S.faults files.new) }
     ensures later { S.faults files.old ≤ S.faults files.new }
