@@ -45,7 +45,8 @@ pub fn words_of(alloc: Global, words: &[String]) -> Result<Asked, WordFault>
 }
 
 /// Runs a command over files, a keeper of files, an inlet and an outlet: the words are read, then the layout is fetched,
-/// then the request line is held against it, then the work is done, then the text is given. `make` and `survey` fetch no file.
+/// then the request line is held against it, then the work is done, then the text is given. `make` and `survey` fetch no
+/// file.
 pub fn plain<S: FileSource, K: FileKeeper, I: Inlet, O: Outlet>(
     alloc: Global,
     words: &[String],

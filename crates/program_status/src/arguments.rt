@@ -8,8 +8,8 @@ use std::alloc::{AllocError, Global};
 use std::env::Args;
 use std::io::{self, ErrorKind};
 
-/// The words behind the program's name, of its arguments as `env::args` answers them. Memory exactly where there was none, there
-/// or here; Usage where an argument isn't UTF-8.
+/// The words behind the program's name, of its arguments as `env::args` answers them. Memory exactly where there was none,
+/// there or here; Usage where they can't be read for another cause, as where one isn't UTF-8.
 pub fn words_behind_name(alloc: Global, args: io::Result<Args>) -> Result<Vec<String>, Status>
     ensures words { IfOk args (λ all. IfOk result (λ words. words.items ≡ drop 1 (into_iter_items all))) }
     ensures want { IfOk args (λ all. IfErr result (λ status. status ≡ Status.Memory)) }

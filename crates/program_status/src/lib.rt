@@ -1,5 +1,5 @@
-//! How the program begins and ends: the words of its arguments, the statuses that a call may end with, and of each status the exit
-//! status and the line on standard error. It knows no files and no tiles.
+//! How the program begins and ends: the words of its arguments, the statuses that a call may end with, and of each the
+//! exit status and the line on standard error. It knows no files and no tiles.
 #![tactic(auto)]
 
 mod arguments;
