@@ -1,5 +1,5 @@
 -- The statuses of calls, and the table of what is left where there is no memory to read the words.
-use Rattle.std.proofs.Common.{◌≡◌, ℕ, ◌≤◌, List, ◌∷◌, refl, sym, subst, arith}
+use Rattle.std.proofs.Common.{ℕ, ◌≤◌, List, ◌∷◌, refl, arith}
 use Rattle.std.specs.Prelude.{Option, Some, None}
 use Rattle.implicit_tiling.specs.Files.{Files}
 use Rattle.program_status.specs.Sets.{IsOneOf}
