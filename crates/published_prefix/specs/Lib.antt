@@ -1,0 +1,3 @@
+pub mod Heads
+pub mod Seats
+pub mod Prefixes
