@@ -1,3 +1,3 @@
 pub mod Heads
-pub mod Seats
 pub mod Prefixes
+pub mod Seats

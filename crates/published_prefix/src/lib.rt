@@ -26,3 +26,6 @@ pub use steps::{Opening, Published};
 pub use view::{Half, Turn, View};
 pub use walk_end::WalkEnd;
 pub use word::Word;
+
+#[cfg(test)]
+mod tests;
