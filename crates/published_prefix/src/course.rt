@@ -8,8 +8,8 @@ use crate::walk_end::WalkEnd;
 use std::marker::Brand;
 
 /// What is published: which word stands at each place, how many steps and words there may be and with which end, and
-/// which work goes on from there. The tag, which only contracts see, is fixed when a prefix is made. All of this are relations:
-/// where it is not known what a walk reads, more than one word may stand at a place.
+/// which work goes on from there. The tag, which only contracts see, is fixed when a prefix is made. All of this are
+/// relations: where it is not known what a walk reads, more than one word may stand at a place.
 pub trait Course {
     type Tag;
 

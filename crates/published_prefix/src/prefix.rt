@@ -39,8 +39,9 @@ pub type Prefix<C> = Laid<
     Published<C>,
 >;
 
-/// A prefix, by the types of its table. Contracts see it as the table's name, which each of its seats has too. It names
-/// the rule of the table alone, so that a struct which is generic over a course of its own may have a prefix in a field.
+/// A prefix, by the types of its table. Contracts see it as the table's name, which each of its seats has too. It
+/// names the rule of the table alone, so that a struct which is generic over a course of its own may have a prefix in
+/// a field.
 #[derive(Drop)]
 pub struct Laid<S, D, K, Q: TableRule<S, D, K>> {
     pub(crate) table: Table<S, D, K, Q, Global>,
@@ -76,8 +77,8 @@ pub struct Page {
 }
 
 impl<C: Course> Prefix<C> {
-    /// A prefix with no words yet and room for so many, and its first seat. The tag is stated by `J`. An error comes only for
-    /// want of memory, and the work is dropped then.
+    /// A prefix with no words yet and room for so many, and its first seat. The tag is stated by `J`. An error comes
+    /// only for want of memory, and the work is dropped then.
     pub fn new<J: Tells<C::Tag>>(
         alloc: Global,
         capacity: usize,
@@ -124,8 +125,8 @@ impl<C: Course> Prefix<C> {
         }
     }
 
-    /// The words from a place on, as far as `out` and the head that this call loads go; the rest of `out` stays as it was. It
-    /// doesn't wait. The length, steps and end are that head's, and no nearer than what the seat had seen.
+    /// The words from a place on, as far as `out` and the head that this call loads go; the rest of `out` stays as it
+    /// was. It doesn't wait. The length, steps and end are that head's, and no nearer than what the seat had seen.
     pub fn page(&self, seat: &mut PrefixSeat<C>, from: usize, out: &mut [Word]) -> Page
         requires own { seat.old.table ≡ self.now }
         ensures head { seat.new ≡ looked seat.old result.steps result.length result.end }
@@ -147,8 +148,8 @@ impl<C: Course> Prefix<C> {
         }
     }
 
-    /// One try to take the work, which doesn't wait. It answers the work that goes on from the head, where nobody had it, or
-    /// None, where the turn was taken.
+    /// One try to take the work, which doesn't wait. It answers the work that goes on from the head, where nobody had
+    /// it, or None, where the turn was taken.
     pub fn try_claim(&self, seat: &mut PrefixSeat<C>) -> Option<C::Work>
         requires own { seat.old.table ≡ self.now }
         requires none_out { seat.old.has_work ≡ false }

@@ -6,12 +6,12 @@ use crate::course::Course;
 use crate::view::View;
 use std::marker::Model;
 
-/// A seat, which a thread reads and publishes with. It has no bytes, and any thread may have it. A seat that is dropped
-/// while it has the work keeps the turn for good.
+/// A seat, which a thread reads and publishes with. It has no bytes, and any thread may have it. A seat that is
+/// dropped while it has the work keeps the turn for good.
 pub type PrefixSeat<C> = Seated<<C as Course>::Tag, <C as Course>::Work>;
 
-/// A seat, by the types of its course. Contracts see its table and tag, what it has seen, loaded, stored and tried, and
-/// whether it has the work.
+/// A seat, by the types of its course. Contracts see its table and tag, what it has seen, loaded, stored and tried,
+/// and whether it has the work.
 #[derive(Drop)]
 pub struct Seated<G, T> {
     pub(crate) place: atomic_table::Seat<Option<T>, View<G>>,

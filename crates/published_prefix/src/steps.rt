@@ -1,5 +1,5 @@
-// The rule of a prefix's table, and what each kind of step tells: the loads of the head and of other words, the stores of
-// other words and of the head, the compare and exchange that takes the turn, the store that ends it, and split. The
+// The rule of a prefix's table, and what each kind of step tells: the loads of the head and of other words, the stores
+// of other words and of the head, the compare and exchange that takes the turn, the store that ends it, and split. The
 // exchange of the slot changes no view.
 ghost use Rattle.published_prefix.specs.Heads.{fault_high, fault_low};
 ghost use Rattle.published_prefix.specs.Prefixes.{Publishing, first_view, informed_view, sees, reads_high, reads_low, reads_fault, claims, puts, row_with, fault_high_with, fault_low_with, publishes, leaves};

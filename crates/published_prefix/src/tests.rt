@@ -1,5 +1,5 @@
-// What no clause says: that words and work come round, that a page taken beside a thread that publishes is a front of the
-// course, and that prefixes and seats may go to other threads.
+// What no clause says: that words and work come round, that a page taken beside a thread that publishes is a front of
+// the course, and that prefixes and seats may go to other threads.
 ghost use Rattle.std.specs.Prelude.{◌≡◌, ℕ, ◌+◌, ◌*◌, ◌^◌, ◌<◌, ◌≤◌, true, false, length, slice_index, IfOk};
 ghost use Rattle.std.specs.Arc.{arc_value};
 ghost use Rattle.published_prefix.specs.Heads.{FitsFaultWord};
@@ -13,9 +13,9 @@ use std::sync::{Arc, Wait};
 use std::test::Fail;
 use std::thread::{Threads, join, yield_now};
 
-// The words of a quadtree of three levels, all tiles of which are there, up to level 1. The subtrees have two levels, and
-// there are no contents. The higher number of a word is the level times 2^16, the lower one the tile's Morton index. A
-// walk of all tiles gives the root by its first step, and the root's children by its second.
+// The words of a quadtree of three levels, all tiles of which are there, up to level 1. The subtrees have two levels,
+// and there are no contents. The higher number of a word is the level times 2^16, the lower one the tile's Morton
+// index. A walk of all tiles gives the root by its first step, and the root's children by its second.
 const ROOT: [Word; 1] = [Word { high: 0, low: 0 }];
 
 const CHILDREN: [Word; 4] = [
