@@ -14,7 +14,7 @@ import re
 import sys
 
 TOP = os.path.dirname(os.path.dirname(os.path.abspath(__file__)))
-ITEM = r"\b(?:fn|mod|struct|enum|trait|ensures|requires)\s+(\w+)|\b(?:ghost|const)\s+(\w+)"
+ITEM = r"\b(?:fn|mod|struct|enum|trait|type|ensures|requires)\s+(\w+)|\b(?:ghost|const)\s+(\w+)"
 QUOTED = re.compile(r"`([^`]*)`")
 INNER = "-- For proofs and inner functions: "
 CITED = re.compile(r"use Rattle\.(\w+)\.specs\.(\w+)\.\{([^}]*)\}")
