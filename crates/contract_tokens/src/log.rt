@@ -30,8 +30,15 @@ impl<T> Log<T> {
     pub fn empty() -> Log<T>
         ensures { result ≡ [] }
     {
+        Log::of::<Brand>()
+    }
+
+    /// The entries that `J` tells.
+    pub fn of<J: Tells<LinkedList<T>>>() -> Log<T>
+        ensures { result ≡ J.told }
+    {
         Log {
-            told: Told::of::<Brand>(),
+            told: Told::of::<J>(),
         }
     }
 
@@ -49,9 +56,7 @@ impl<T> Log<T> {
     {
         let _ = before;
         let _ = entry;
-        Log {
-            told: Told::of::<J>(),
-        }
+        Log::of::<J>()
     }
 
     /// Another token of the same list.
@@ -67,8 +72,6 @@ impl<T> Log<T> {
         ensures { result ≡ other.now }
     {
         let _ = other;
-        Log {
-            told: Told::of::<J>(),
-        }
+        Log::of::<J>()
     }
 }

@@ -44,3 +44,13 @@ module _ {K V : Type 0} (eq : K → K → Bool) (key : K) (frames : Frames K V) 
   one_answer once Busy (Granted g) p q = absurd (no_victim g q.1 p.1)
   one_answer once Busy Waiting p q = absurd (holds q.0 (Loading q.1) q.2 q.3 p.0)
   one_answer once Busy Busy p q = refl
+
+  no_hit_by : (f : ℕ) → Hit f ≡ Waiting → ⊥
+  no_hit_by f e = cc
+
+  -- where a frame is loading the key, or none has it, none is ready with it
+  pub no_hit-loading : HasKeysOnce eq frames.census → IsAnswer eq key frames Waiting → (f : ℕ) → IsAnswer eq key frames (Hit f) → ⊥
+  no_hit-loading once waits f answer = no_hit_by f (one_answer once (Hit f) Waiting answer waits)
+
+  pub no_hit-none : NoneHas eq key frames.census → (f : ℕ) → IsAnswer eq key frames (Hit f) → ⊥
+  no_hit-none none f answer = holds f (Ready answer.0 answer.1) answer.2 answer.3 none

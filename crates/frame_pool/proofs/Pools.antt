@@ -29,7 +29,7 @@ module _ {K : Type 0} (eq : K → K → Bool) where
       (at-set census f g new one here)
 
   -- a state with no other keys is written
-  keys-kept : (census : List (FrameState K)) (f : ℕ) (old new : FrameState K) → HasKeysOnce eq census → slice_get census f ≡ Some old → ((key : K) → has_key eq key new ≡ true → has_key eq key old ≡ true) → HasKeysOnce eq (set census f new)
+  pub keys-kept : (census : List (FrameState K)) (f : ℕ) (old new : FrameState K) → HasKeysOnce eq census → slice_get census f ≡ Some old → ((key : K) → has_key eq key new ≡ true → has_key eq key old ≡ true) → HasKeysOnce eq (set census f new)
   keys-kept census f old new once at sub key g h one other here there has too =
       let a = old_has census f g old new one key at (sub key) here has in
       let b = old_has census f h old new other key at (sub key) there too in
@@ -45,7 +45,7 @@ module _ {K : Type 0} (eq : K → K → Bool) where
   has-alike laws (Ready own pins) key third a b = alike laws own key third a b
 
   -- a key that no frame has is written
-  keys-new : IsPartialEquivalence eq → (census : List (FrameState K)) (f : ℕ) (key : K) → HasKeysOnce eq census → NoneHas eq key census → HasKeysOnce eq (set census f (Loading key))
+  pub keys-new : IsPartialEquivalence eq → (census : List (FrameState K)) (f : ℕ) (key : K) → HasKeysOnce eq census → NoneHas eq key census → HasKeysOnce eq (set census f (Loading key))
   keys-new laws census f key once none third g h one other here there has too =
       let clash : (i j : ℕ) (state : FrameState K) → Loading key ≡ one → slice_get census j ≡ Some state → has_key eq third state ≡ true → i ≡ j = λ i j state is at same. absurd (both_ways (has_key eq key state) (none j state at) (has-alike laws state key third same (subst (λ s. has_key eq third s ≡ true) (sym is) has))) in
       ⊎_elim

@@ -1,5 +1,5 @@
 //! The pool and its calls.
-ghost use Rattle.std.specs.Prelude.{◌≡◌, ◌-◌, ◌^◌, ◌<◌, ◌≤◌, ℕ, length, replicate, slice_get, IfOk, IfSome, Some, None};
+ghost use Rattle.std.specs.Prelude.{◌≡◌, ◌-◌, ◌^◌, ◌<◌, ◌≤◌, ℕ, length, replicate, slice_get, IfOk, IfSome, IfNone, Some, None};
 ghost use Rattle.std.specs.List.{range_with_len};
 ghost use Rattle.std.specs.List.Sorted.{IsPermutation};
 ghost use Rattle.std.specs.Map.Iter.{GivesInOrder, GivesInReverse};
@@ -10,6 +10,7 @@ ghost use Rattle.frame_pool.specs.Moves.{IsAskAnswer, MayGoOn, after_ask, after_
 ghost use Rattle.frame_pool.specs.Moves.{settled as settled_of};
 ghost use Rattle.frame_pool.specs.declared.frame.FrameState.TheVariants.{Empty as empty, Loading as loading};
 ghost use Rattle.frame_pool.specs.declared.frame.Asked.{Asked as asked};
+ghost use Rattle.frame_pool.specs.declared.frame.Asked.TheVariants.{Hit as hit};
 
 use crate::frame::{Asked, FrameState};
 use crate::key_notes::{holder, note};
@@ -76,6 +77,20 @@ impl<K: Copy + Eq + Hash, V: Drop> Pool<K, V> {
         ensures numbers { IsPermutation (range_with_len 0 (length self.now.census)) self.now.order }
     {
         self.order.iter()
+    }
+
+    /// The frame that a hit of the key would answer. Nothing is asked, and nothing changes.
+    pub fn find(&self, key: K) -> Option<u32>
+        ensures found { IfSome result (λ frame. IsAnswer K.eq key self.now (hit frame)) }
+        ensures none { IfNone result ((f : ℕ) → ¬ IsAnswer K.eq key self.now (hit f)) }
+    {
+        match holder(&self.census, &self.notes, key) {
+            Some(frame) => match self.census[frame as usize] {
+                FrameState::Ready { .. } => Some(frame),
+                _ => None,
+            },
+            None => None,
+        }
     }
 
     /// Asks for the value of the key. A hit is one more pin of its frame, which `unpin` ends. A granted frame waits

@@ -1,0 +1,6 @@
+pub mod Audits
+pub mod Busies
+pub mod Finds
+pub mod Made
+pub mod Opens
+pub mod Passes

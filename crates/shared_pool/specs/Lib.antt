@@ -1,0 +1,9 @@
+pub mod Books
+pub mod Fits
+pub mod FramesKept
+pub mod Laws
+pub mod Logs
+pub mod LogsKept
+pub mod NotesKept
+pub mod Seen
+pub mod Sums
