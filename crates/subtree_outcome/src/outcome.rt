@@ -61,6 +61,7 @@ pub fn read_subtree<S: FileSource>(
         (λ all. IfOk result (λ found. (scene_of all layout.now).outcome root ≡ outcome_seen found)) }
     ensures found { IfOk result (IsOutcomeAt layout.now root) }
     ensures failed { result ≡ Err WalkStop.ReadFault → Rose (S.faults files.old) (S.faults files.new) }
+    ensures sure { result ≢ Err WalkStop.ReadFault → S.faults files.new ≡ S.faults files.old }
     ensures later { S.faults files.old ≤ S.faults files.new }
     ensures counted { result ≢ Err WalkStop.Memory → S.fetches files.new ≡ one_more (S.fetches files.old) }
     ensures at_most_one { S.fetches files.new ≤ one_more (S.fetches files.old) }
