@@ -1,7 +1,7 @@
 # `view` and its checks. CONTRIBUTING.md says when to use which; CRATE, ONLY and CASE are given as in `make check CRATE=morton`.
 VIEW = crates/view/out/view
 
-.PHONY: demo test build check unit edits texts outside times
+.PHONY: demo test build check unit edits texts outside refused-memory times
 
 # Builds `view` and runs it on the example.
 demo: build
@@ -34,6 +34,10 @@ texts:
 # The built program from outside, or only the cases whose name has a word: make outside CASE=octree
 outside: build
 	python3 tests/black_box.py $(VIEW) $(CASE)
+
+# Each command with each of its allocations refused in turn: make refused-memory CASE=make
+refused-memory: build
+	python3 tests/refused_memory.py $(VIEW) $(CASE)
 
 # The gate's proofs, and what each crate took of the processors.
 times:

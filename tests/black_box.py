@@ -8,12 +8,16 @@ import sys
 if not 2 <= len(sys.argv) <= 3:
     sys.exit(__doc__)
 
+import edges
+import extremes
 import harness
 import making
 import walking
 
 walking.cases()
 making.cases()
+edges.cases()
+extremes.cases()
 passed, failed = harness.counts["passed"], harness.counts["failed"]
 print(f"black box: {passed} passed, {failed} failed" + (f", of the cases with {harness.WORD!r}" if harness.WORD else ""))
 sys.exit(1 if failed or not passed else 0)

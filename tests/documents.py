@@ -170,9 +170,9 @@ def missing_files():
 
 
 def unknown_targets():
-    targets = set(re.findall(r"(?m)^(\w+):", read(os.path.join(TOP, "Makefile"))))
+    targets = set(re.findall(r"(?m)^([\w-]+):", read(os.path.join(TOP, "Makefile"))))
     for document, text in documents():
-        for name in re.findall(r"(?:^|`)make (\w+)", text, re.M):
+        for name in re.findall(r"(?:^|`)make ([\w-]+)", text, re.M):
             if name not in targets:
                 yield f"{document}: make {name} is no target"
 

@@ -1,7 +1,9 @@
 """Running the program from outside, and telling what was wrong. Texts are written with `|` for TAB."""
 import functools
 import os
+import resource
 import shutil
+import signal
 import socket
 import subprocess
 import sys
@@ -64,14 +66,24 @@ def files_in(folder):
     return found
 
 
+def under(limits):
+    """What a process does before it becomes the program: it sets these limits of the system, RLIMIT_AS and the like. A write
+    past RLIMIT_FSIZE fails then, and ends nothing."""
+    def begin():
+        signal.signal(signal.SIGXFSZ, signal.SIG_IGN)
+        for which, most in (limits or {}).items():
+            resource.setrlimit(which, (most, most))
+    return begin
+
+
 @case
-def run(name, files, words, wanted, status=0, message=None, stdout=None):
+def run(name, files, words, wanted, status=0, message=None, stdout=None, limits=None):
     """Runs the program over these files; `wanted` is its whole standard output."""
     folder = tempfile.mkdtemp(prefix="view ")
     try:
         write_files(folder, files)
         done = subprocess.run([PROGRAM] + words, cwd=folder, stdin=subprocess.DEVNULL, stderr=subprocess.PIPE,
-                              stdout=stdout if stdout is not None else subprocess.PIPE, timeout=120)
+                              stdout=stdout if stdout is not None else subprocess.PIPE, timeout=120, preexec_fn=under(limits))
         problems = []
         if done.returncode != status:
             problems.append(f"status {done.returncode}, not {status}")
@@ -100,7 +112,7 @@ def shell(name, files, command, wanted, note):
 
 
 @case
-def pieces(name, files, words, wanted):
+def pieces(name, files, words, wanted, status=0):
     """Runs the program with a socket for its output, which keeps writes apart: each has at most 65,536 bytes, and all but
     the last have at least half of that. Together they are the text that is wanted."""
     folder = tempfile.mkdtemp(prefix="view ")
@@ -109,10 +121,10 @@ def pieces(name, files, words, wanted):
         ours, theirs = socket.socketpair(socket.AF_UNIX, socket.SOCK_SEQPACKET)
         with ours:
             with theirs:
-                program = subprocess.Popen([PROGRAM] + words, cwd=folder, stdin=subprocess.DEVNULL, stdout=theirs)
+                program = subprocess.Popen([PROGRAM] + words, cwd=folder, stdin=subprocess.DEVNULL, stdout=theirs, stderr=subprocess.DEVNULL)
             taken = list(iter(lambda: ours.recv(1 << 20), b""))
         sizes = [len(piece) for piece in taken]
-        problems = [] if program.wait(120) == 0 and b"".join(taken).decode() == wanted else ["the pieces aren't the text"]
+        problems = [] if program.wait(120) == status and b"".join(taken).decode() == wanted else ["the pieces aren't the text"]
         if len(sizes) < 2 or max(sizes) > 65536 or min(sizes[:-1]) < 32768:
             problems.append(f"pieces of {sizes} bytes")
         report(name, problems)
@@ -121,12 +133,13 @@ def pieces(name, files, words, wanted):
 
 
 @case
-def left_in_folder(name, there, words, wanted, text, status, stdout=None):
+def left_in_folder(name, there, words, wanted, text, status, stdout=None, limits=None):
     """Runs the program over files that are there, and looks at what is there then."""
     folder = tempfile.mkdtemp(prefix="view ")
     try:
         write_files(folder, there)
-        done = subprocess.run([PROGRAM] + words, cwd=folder, stdout=stdout or subprocess.PIPE, stderr=subprocess.PIPE, timeout=120)
+        done = subprocess.run([PROGRAM] + words, cwd=folder, stdout=stdout or subprocess.PIPE, stderr=subprocess.PIPE, timeout=120,
+                              preexec_fn=under(limits))
         found = files_in(folder)
         problems = [] if (done.returncode, (done.stdout or b"").decode(), done.stderr.decode()) == (status, text, MESSAGES[status]) else [repr(done)]
         report(name, problems + ([] if found == wanted else [f"files {sorted(found)}, not {sorted(wanted)}"]))

@@ -1,5 +1,6 @@
 """Cases of `make` and `survey`: worked files byte for byte, whole tilesets beside a plain reference, bad recipes, and keepers
 that fail."""
+import resource
 import shutil
 import subprocess
 import tempfile
@@ -85,6 +86,17 @@ def make_cases():
     left_in_folder("a_folder_in_place_of_tileset_json", folder, ["make", *WORKED], {**WORKED_FILES, **folder}, "", 5)
     with open("/dev/full", "wb") as full:
         left_in_folder("make_to_a_full_device", {}, ["make", *WORKED], WORKED_FILES, "", 5, stdout=full)
+    # a write fails after a front of the file was written: the file goes, and nothing else does
+    one = made_files(made_scene("quadtree", 1, 1, 0, 1, 0))
+    first = len(one["s.0.0.0.subtree"])
+    whole = len(WORKED_FILES["s.0.0.0.subtree"])
+    for name, there, recipe, most, left in (
+            ("no_front_stays", {}, WORKED, 256, {}),
+            ("no_front_of_all_but_one_byte_stays", {}, WORKED, whole - 1, {}),
+            ("what_was_there_goes_with_the_front", {"s.0.0.0.subtree": b"old", "o": b"o"}, WORKED, 256, {"o": b"o"}),
+            ("no_front_of_tileset_json_stays", {}, ["quadtree", "1", "1", "0", "1", "0"], first,
+             {"s.0.0.0.subtree": one["s.0.0.0.subtree"]})):
+        left_in_folder(name, there, ["make", *recipe], left, "", 5, limits={resource.RLIMIT_FSIZE: most})
 
 
 def survey_cases():
