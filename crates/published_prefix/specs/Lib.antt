@@ -1,3 +1,4 @@
 pub mod Heads
 pub mod Prefixes
 pub mod Seats
+pub mod Samples

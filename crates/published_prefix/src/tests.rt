@@ -3,7 +3,8 @@
 ghost use Rattle.std.specs.Prelude.{◌≡◌, ℕ, ◌+◌, ◌*◌, ◌^◌, ◌<◌, ◌≤◌, true, false, length, slice_index, IfOk};
 ghost use Rattle.std.specs.Arc.{arc_value};
 ghost use Rattle.published_prefix.specs.Heads.{FitsFaultWord};
-ghost use Rattle.std.proofs.Common.{rules};
+ghost use Rattle.published_prefix.specs.Samples.{any_begins, IsNumberedHead};
+ghost use Rattle.published_prefix.specs.Samples.{numbered_steps_are_few, numbered_faults_fit, numbered_begins};
 ghost use Rattle.published_prefix.specs.declared.walk_end.WalkEnd.TheVariants.{Partial, Complete};
 
 use crate::{Course, Prefix, PrefixSeat, WalkEnd, Word};
@@ -76,7 +77,7 @@ impl Course for AnyWalk {
 
     ghost fault_fits = { λ tag steps count end head. head.2 };
 
-    ghost begins = { λ tag. (Prim.search rules, Prim.search rules, tt) };
+    ghost begins = { λ tag. any_begins };
 }
 
 // The tag says nothing.
@@ -170,16 +171,15 @@ impl Course for Numbered {
 
     ghost word_at = { λ tag place word. word ≡ place * 2 ^ 64 + place };
 
-    ghost is_head = { λ tag steps count end. (steps ≤ 256) × (count ≡ 256 * steps) × (steps < 256 → end ≡ Partial)
-        × (steps ≡ 256 → end ≡ Complete) };
+    ghost is_head = { λ tag steps count end. IsNumberedHead steps count end };
 
     ghost fits = { λ tag steps count end work. work ≡ steps };
 
-    ghost few_steps = { λ tag steps count end head. Prim.search rules };
+    ghost few_steps = { λ tag steps count end head. numbered_steps_are_few steps count end head };
 
-    ghost fault_fits = { λ tag steps count end head. Prim.search rules };
+    ghost fault_fits = { λ tag steps count end head. numbered_faults_fit steps count end head };
 
-    ghost begins = { λ tag. Prim.search rules };
+    ghost begins = { λ tag. numbered_begins };
 }
 
 const STEPS: u64 = 256;
