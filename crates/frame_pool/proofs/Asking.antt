@@ -49,8 +49,8 @@ module _ {K V : Type 0} (eq : K → K → Bool) (key : K) (frames : Frames K V) 
   no_hit_by f e = cc
 
   -- where a frame is loading the key, or none has it, none is ready with it
-  pub no_hit-loading : HasKeysOnce eq frames.census → IsAnswer eq key frames Waiting → (f : ℕ) → IsAnswer eq key frames (Hit f) → ⊥
+  pub no_hit-loading : HasKeysOnce eq frames.census → IsAskAnswer eq key frames Waiting → (f : ℕ) → IsAskAnswer eq key frames (Hit f) → ⊥
   no_hit-loading once waits f answer = no_hit_by f (one_answer once (Hit f) Waiting answer waits)
 
-  pub no_hit-none : NoneHas eq key frames.census → (f : ℕ) → IsAnswer eq key frames (Hit f) → ⊥
+  pub no_hit-none : NoneHas eq key frames.census → (f : ℕ) → IsAskAnswer eq key frames (Hit f) → ⊥
   no_hit-none none f answer = holds f (Ready answer.0 answer.1) answer.2 answer.3 none

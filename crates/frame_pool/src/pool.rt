@@ -81,8 +81,8 @@ impl<K: Copy + Eq + Hash, V: Drop> Pool<K, V> {
 
     /// The frame that a hit of the key would answer. Nothing is asked, and nothing changes.
     pub fn find(&self, key: K) -> Option<u32>
-        ensures found { IfSome result (λ frame. IsAnswer K.eq key self.now (hit frame)) }
-        ensures none { IfNone result ((f : ℕ) → ¬ IsAnswer K.eq key self.now (hit f)) }
+        ensures found { IfSome result (λ frame. IsAskAnswer K.eq key self.now (hit frame)) }
+        ensures none { IfNone result ((f : ℕ) → ¬ IsAskAnswer K.eq key self.now (hit f)) }
     {
         match holder(&self.census, &self.notes, key) {
             Some(frame) => match self.census[frame as usize] {
