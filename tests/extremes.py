@@ -81,7 +81,7 @@ def subtree_json_cases():
 
 def last_tile_cases():
     """The last tile of the last level in each axis, and in all of them, by subtrees of few and of many levels."""
-    for scheme, axes, levels, depths in (("QUADTREE", 2, 26, (1, 2, 9, 10)), ("OCTREE", 3, 18, (1, 2, 6, 7))):
+    for scheme, axes, levels, depths in (("QUADTREE", 2, 32, (1, 2, 9, 10)), ("OCTREE", 3, 21, (1, 2, 6, 7))):
         last = 2 ** (levels - 1) - 1
         uri = "".join(("{level}", "/{x}", "/{y}", "/{z}")[:axes + 1])
         for depth in depths:
@@ -92,11 +92,11 @@ def last_tile_cases():
                 word = ",".join(map(str, corner))
                 extreme(f"the_last_level_of_{scheme.lower()}_{depth}_at_{word}", files, ["tiles", str(levels - 1), word, word],
                         lines(*("|".join([*row, "/".join(row)]) for row in rows), f"end|complete|{levels}"))
-    quadtree, octree = tileset_b(10, 26), tileset_b(1, 18, "OCTREE")
-    extreme("one_level_more_than_26", quadtree, ["tiles", "26", "0,0", "0,0"], lines("refused|3"), 2)
-    extreme("one_level_more_than_18", octree, ["tiles", "18", "0,0,0", "0,0,0"], lines("refused|3"), 2)
-    extreme("one_tile_more_than_the_last_of_a_quadtree", quadtree, ["tiles", "25", "0,0", "33554431,33554432"], lines("refused|5"), 2)
-    extreme("one_tile_more_than_the_last_of_an_octree", octree, ["tiles", "17", "0,0,0", "0,0,131072"], lines("refused|5"), 2)
+    quadtree, octree = tileset_b(10, 32), tileset_b(1, 21, "OCTREE")
+    extreme("one_level_more_than_32", quadtree, ["tiles", "32", "0,0", "0,0"], lines("refused|3"), 2)
+    extreme("one_level_more_than_21", octree, ["tiles", "21", "0,0,0", "0,0,0"], lines("refused|3"), 2)
+    extreme("one_tile_more_than_the_last_of_a_quadtree", quadtree, ["tiles", "31", "0,0", "2147483647,2147483648"], lines("refused|5"), 2)
+    extreme("one_tile_more_than_the_last_of_an_octree", octree, ["tiles", "20", "0,0,0", "0,0,1048576"], lines("refused|5"), 2)
 
 
 @functools.cache
@@ -117,19 +117,19 @@ def first_listed(axes, levels):
 
 def widest_cases():
     """Boxes of whole levels, which are cut, and the longest columns."""
-    whole = ["0,0", "33554431,33554431"]
+    whole = ["0,0", "2147483647,2147483647"]
     names = ("the_whole_last_level_of_a_quadtree", "the_whole_last_level_by_subtrees_of_one_level",
              "the_whole_last_level_of_an_octree", "a_column_of_the_largest_files", "a_column_of_subtrees_of_one_level")
     if not any(map(is_chosen, names)):
         return
     cut = first_listed(2, 9)
-    extreme(names[0], tileset_b(10, 26), ["tiles", "25", *whole], cut)
-    extreme(names[1], tileset_b(1, 26), ["tiles", "25", *whole], cut)
-    extreme(names[2], tileset_b(1, 18, "OCTREE"), ["tiles", "17", "0,0,0", "131071,131071,131071"],
+    extreme(names[0], tileset_b(10, 32), ["tiles", "31", *whole], cut)
+    extreme(names[1], tileset_b(1, 32), ["tiles", "31", *whole], cut)
+    extreme(names[2], tileset_b(1, 21, "OCTREE"), ["tiles", "20", "0,0,0", "1048575,1048575,1048575"],
             first_listed(3, 7))
-    extreme(names[3], {"tileset.json": tileset("QUADTREE", 10, 26, "all.subtree"), "all.subtree": full_subtree(2, 10)},
+    extreme(names[3], {"tileset.json": tileset("QUADTREE", 10, 32, "all.subtree"), "all.subtree": full_subtree(2, 10)},
             ["tiles", "11", "0,0", "0,2047"], lines(*all_ones(2, 11, (0, 0), (0, 2047)), "end|complete|4095"))
-    extreme(names[4], tileset_b(1, 26), ["tiles", "15", "0,0", "0,32767"],
+    extreme(names[4], tileset_b(1, 32), ["tiles", "15", "0,0", "0,32767"],
             lines(*all_ones(2, 15, (0, 0), (0, 32767)), "end|complete|65535"))
 
 
@@ -158,8 +158,8 @@ def full_subtree(axes, levels, bytes_of_contents=(), cleared=(), count=None, sho
 
 
 def largest_subtree_cases():
-    """The largest subtrees of each scheme, with eight contents, all as bitstreams; and faults of their very last bits."""
-    patterns = (0xFF, 0x55, 0xAA, 0x01, 0x80, 0x7E, 0x18, 0x00)
+    """The largest subtrees of each scheme, with sixteen contents, all as bitstreams; and faults of their very last bits."""
+    patterns = (0xFF, 0x55, 0xAA, 0x01, 0x80, 0x7E, 0x18, 0x00, 0x0F, 0xF0, 0x3C, 0xC3, 0x10, 0x02, 0xFE, 0x81)
     for scheme, axes, levels, low, high in (("QUADTREE", 2, 10, (300, 17), (420, 200)), ("QUADTREE", 2, 10, (500, 505), (511, 511)),
                                             ("OCTREE", 3, 7, (20, 20, 11), (50, 40, 32)), ("OCTREE", 3, 7, (60, 61, 62), (63, 63, 63))):
         name = f"the_largest_{scheme.lower()}_subtree_from_{'_'.join(map(str, low))}"
@@ -169,7 +169,7 @@ def largest_subtree_cases():
                 tile = tuple(map(int, row.split("|")))
                 place = nodes_above(axes, tile[0]) + make.interleaved(tile[1:])
                 rows.append("|".join([row, *(f"c{c}/{tile[1]}" for c, byte in enumerate(patterns) if byte >> place % 8 & 1)]))
-            files = {"tileset.json": tileset(scheme, levels, levels, NAME, contents=["c%d/{x}" % c for c in range(8)]),
+            files = {"tileset.json": tileset(scheme, levels, levels, NAME, contents=["c%d/{x}" % c for c in range(16)]),
                      "s/0/0/0.subtree": full_subtree(axes, levels, patterns)}
             words = ["tiles", str(levels - 1), ",".join(map(str, low)), ",".join(map(str, high))]
             extreme(name, files, words, lines(*rows, f"end|complete|{len(rows)}"))
@@ -177,12 +177,12 @@ def largest_subtree_cases():
         last = nodes_above(axes, levels) - 1
         parent = nodes_above(axes, levels - 1) - 1
         for name, file, fault in (("whole", full_subtree(axes, levels, patterns), None),
-                                  ("with_no_last_tile", full_subtree(axes, levels, [0] * 8, cleared=[last]), None),
+                                  ("with_no_last_tile", full_subtree(axes, levels, [0] * 16, cleared=[last]), None),
                                   ("with_one_too_few_counted", full_subtree(axes, levels, count=last), 16),
                                   ("with_a_view_a_byte_short", full_subtree(axes, levels, short=1), 15),
                                   ("with_no_parent_of_the_last_tile", full_subtree(axes, levels, cleared=[parent]), 17),
-                                  ("with_a_content_on_no_last_tile", full_subtree(axes, levels, [0] * 7 + [0xFF], cleared=[last]), 18)):
-            files = {"tileset.json": tileset(scheme, levels, levels, NAME, contents=["c"] * 8), "s/0/0/0.subtree": file}
+                                  ("with_a_content_on_no_last_tile", full_subtree(axes, levels, [0] * 15 + [0xFF], cleared=[last]), 18)):
+            files = {"tileset.json": tileset(scheme, levels, levels, NAME, contents=["c"] * 16), "s/0/0/0.subtree": file}
             rows = ["end|checked|1|0"] if fault is None else [f"fault|{fault}|0" + "|0" * axes, "end|checked|1|1"]
             extreme(f"check_of_the_largest_{scheme.lower()}_subtree_{name}", files, ["check"], lines(*rows), len(rows) - 1)
 
@@ -207,25 +207,25 @@ def check_cases():
     """Checks of thousands of faults, of exactly as many files as are looked at, and of more."""
     extreme("check_of_4096_missing_files", with_children("QUADTREE", 6, 12, child=None), ["check"],
             lines(*faults(2, 6, 1, 4096), "end|checked|4097|4096"), 1)
-    extreme("check_of_4096_missing_files_of_an_octree", with_children("OCTREE", 4, 18, child=None), ["check"],
+    extreme("check_of_4096_missing_files_of_an_octree", with_children("OCTREE", 4, 21, child=None), ["check"],
             lines(*faults(3, 4, 1, 4096), "end|checked|4097|4096"), 1)
     for child, number in ((None, 1), (b"\0", 3), (pack("{}"), 11)):
-        extreme(f"check_of_65535_faults_{number}", with_children("QUADTREE", 8, 26, missing=1, child=child), ["check"],
+        extreme(f"check_of_65535_faults_{number}", with_children("QUADTREE", 8, 32, missing=1, child=child), ["check"],
                 lines(*faults(2, 8, number, 65535), "end|checked|65536|65535"), 1)
-    extreme("check_of_more_faults_than_files_are_looked_at", with_children("QUADTREE", 9, 26, child=None), ["check"],
+    extreme("check_of_more_faults_than_files_are_looked_at", with_children("QUADTREE", 9, 32, child=None), ["check"],
             lines(*faults(2, 9, 1, 65535), "end|too-many|65536|65535"), 1)
-    pieces("pieces_of_a_check", with_children("QUADTREE", 8, 26, missing=1, child=None), ["check"],
+    pieces("pieces_of_a_check", with_children("QUADTREE", 8, 32, missing=1, child=None), ["check"],
            lines(*faults(2, 8, 1, 65535), "end|checked|65536|65535"), 1)
-    pieces("pieces_of_a_check_of_an_octree", with_children("OCTREE", 4, 18, child=None), ["check"],
+    pieces("pieces_of_a_check_of_an_octree", with_children("OCTREE", 4, 21, child=None), ["check"],
            lines(*faults(3, 4, 1, 4096), "end|checked|4097|4096"), 1)
     for name, files, wanted in (("exactly_65536_files", with_children("QUADTREE", 8, 16, missing=1), "end|checked|65536|0"),
                                 ("65537_files", with_children("QUADTREE", 8, 16), "end|too-many|65536|0"),
                                 ("262145_files", tileset_b(9, 18), "end|too-many|65536|0"),
                                 ("an_octree_of_2097153_files", tileset_b(7, 14, "OCTREE"), "end|too-many|65536|0"),
-                                ("subtrees_of_one_level", tileset_b(1, 26), "end|too-many|65536|0"),
-                                ("subtrees_of_three_levels", tileset_b(3, 26), "end|too-many|65536|0"),
-                                ("octree_subtrees_of_one_level", tileset_b(1, 18, "OCTREE"), "end|too-many|65536|0"),
-                                ("octree_subtrees_of_two_levels", tileset_b(2, 18, "OCTREE"), "end|too-many|65536|0")):
+                                ("subtrees_of_one_level", tileset_b(1, 32), "end|too-many|65536|0"),
+                                ("subtrees_of_three_levels", tileset_b(3, 32), "end|too-many|65536|0"),
+                                ("octree_subtrees_of_one_level", tileset_b(1, 21, "OCTREE"), "end|too-many|65536|0"),
+                                ("octree_subtrees_of_two_levels", tileset_b(2, 21, "OCTREE"), "end|too-many|65536|0")):
         extreme(f"check_of_{name}", files, ["check"], lines(wanted))
 
 

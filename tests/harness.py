@@ -113,7 +113,7 @@ def shell(name, files, command, wanted, note):
 
 @case
 def pieces(name, files, words, wanted, status=0):
-    """Runs the program with a socket for its output, which keeps writes apart: each has at most 65,536 bytes, and all but
+    """Runs the program with a socket for its output, which keeps writes apart: each has at most 98,304 bytes, and all but
     the last have at least half of that. Together they are the text that is wanted."""
     folder = tempfile.mkdtemp(prefix="view ")
     try:
@@ -125,7 +125,7 @@ def pieces(name, files, words, wanted, status=0):
             taken = list(iter(lambda: ours.recv(1 << 20), b""))
         sizes = [len(piece) for piece in taken]
         problems = [] if program.wait(120) == status and b"".join(taken).decode() == wanted else ["the pieces aren't the text"]
-        if len(sizes) < 2 or max(sizes) > 65536 or min(sizes[:-1]) < 32768:
+        if len(sizes) < 2 or max(sizes) > 98304 or min(sizes[:-1]) < 32768:
             problems.append(f"pieces of {sizes} bytes")
         report(name, problems)
     finally:

@@ -65,13 +65,13 @@ def make_cases():
     made("one_tile", ("quadtree", 1, 1, 0, 1, 0))
     made("a_quadtree_with_three_contents", ("quadtree", 8, 3, 3, 40, 4294967295))
     made("an_octree_of_small_subtrees", ("octree", 6, 1, 2, 30, 9), there={"tileset.json": b"old"})
-    made("an_octree_of_one_subtree", ("octree", 5, 7, 8, 25, 12345))
+    made("an_octree_of_one_subtree", ("octree", 5, 7, 16, 25, 12345))
     made("a_full_level", ("quadtree", 3, 2, 1, 10000, 5))
     for name, words in (("a_recipe_of_five_words", WORKED[:5]), ("a_recipe_of_seven_words", WORKED + ["1"]), ("no_recipe", []),
                         ("another_scheme", ["Quadtree"] + WORKED[1:]), ("no_levels", ["quadtree", "0"] + WORKED[2:]),
-                        ("too_many_levels_of_a_quadtree", ["quadtree", "27"] + WORKED[2:]), ("too_many_levels_of_an_octree", ["octree", "19"] + WORKED[2:]),
+                        ("too_many_levels_of_a_quadtree", ["quadtree", "33"] + WORKED[2:]), ("too_many_levels_of_an_octree", ["octree", "22"] + WORKED[2:]),
                         ("subtrees_of_no_levels", ["quadtree", "3", "0"] + WORKED[3:]), ("subtrees_of_eleven_levels", ["quadtree", "3", "11"] + WORKED[3:]),
-                        ("octree_subtrees_of_eight_levels", ["octree", "3", "8"] + WORKED[3:]), ("nine_contents_to_make", WORKED[:3] + ["9"] + WORKED[4:]),
+                        ("octree_subtrees_of_eight_levels", ["octree", "3", "8"] + WORKED[3:]), ("seventeen_contents_to_make", WORKED[:3] + ["17"] + WORKED[4:]),
                         ("no_points", WORKED[:4] + ["0", "1"]), ("too_many_points", WORKED[:4] + ["10001", "1"]),
                         ("a_number_past_32_bits", WORKED[:5] + ["4294967296"]), ("a_number_with_a_zero_before", WORKED[:5] + ["01"]),
                         ("a_number_with_a_sign", WORKED[:5] + ["+1"]), ("a_number_below_zero", WORKED[:5] + ["-1"]), ("a_number_with_a_blank", WORKED[:5] + ["1 "]),
@@ -105,7 +105,7 @@ def survey_cases():
     run("survey_of_two_contents", {}, ["survey", "quadtree", "3", "2", "2", "2", "1"], lines("survey|4|4|4|7|complete"))
     run("survey_of_subtrees_of_five_levels", {}, ["survey", "quadtree", "12", "5", "2", "2", "1"], "", 2)
     run("survey_of_subtrees_of_four_levels", {}, ["survey", "quadtree", "1", "4", "0", "1", "1"], lines("survey|2|1|1|0|complete"))
-    for recipe in (("octree", 12, 4, 2, 1000, 7), ("quadtree", 14, 3, 4, 3000, 2), ("octree", 18, 4, 8, 5000, 4294967295)):
+    for recipe in (("octree", 12, 4, 2, 1000, 7), ("quadtree", 14, 3, 4, 3000, 2), ("octree", 21, 4, 16, 5000, 4294967295)):
         names = [f"survey_of_{'_'.join(map(str, recipe))}{again}" for again in ("", "_again")]
         if not any(is_chosen(name) for name in names):
             continue

@@ -51,8 +51,13 @@ def tiles_cases():
         lines(*all_ones(2, 16, (0, 0), (0, 32767)), "end|complete|65536"))
     run("cut_at_65536", tileset_b(9, 18), ["tiles", "17", "0,0", "0,32767"],
         lines(*all_ones(2, 17, (0, 0), (0, 32767))[:65536], "end|too-many|65536"))
-    run("one_path_of_26_levels", tileset_b(9, 26), ["tiles", "25", "33554431,33554431", "33554431,33554431"],
-        lines(*(f"{l}|{2**l - 1}|{2**l - 1}" for l in range(26)), "end|complete|26"))
+    run("one_path_of_32_levels", tileset_b(9, 32), ["tiles", "31", "2147483647,2147483647", "2147483647,2147483647"],
+        lines(*(f"{l}|{2**l - 1}|{2**l - 1}" for l in range(32)), "end|complete|32"))
+    run("one_path_of_an_octree_of_21_levels", tileset_b(2, 21, "OCTREE"), ["tiles", "20", "1048575,0,1048575", "1048575,0,1048575"],
+        lines(*(f"{l}|{2**l - 1}|0|{2**l - 1}" for l in range(21)), "end|complete|21"))
+    sixteen = pack(A_JSON.replace('[{"constant":1}]', "[" + ",".join(['{"constant":1}'] * 16) + "]"))
+    run("sixteen_contents", {"tileset.json": tileset("QUADTREE", 2, 2, NAME, contents=[f"a{c}" for c in range(16)]), "s/0/0/0.subtree": sixteen},
+        ["tiles", "0", "0,0", "0,0"], lines("|".join(["0", "0", "0", *(f"a{c}" for c in range(16))]), "end|complete|1"))
     run("an_octree", tileset_b(2, 2, "OCTREE"), ["tiles", "1", "1,0,0", "1,1,1"],
         lines("0|0|0|0", "1|1|0|0", "1|1|1|0", "1|1|0|1", "1|1|1|1", "end|complete|5"))
 
@@ -82,11 +87,12 @@ def layout_cases():
     bad("no_implicit_tiling", b'{"root":{}}', 5)
     bad("a_scheme_in_small_letters", tileset("quadtree", 2, 2, NAME), 6)
     bad("no_subtree_levels", tileset("QUADTREE", 0, 2, NAME), 7)
-    bad("too_many_levels", tileset("QUADTREE", 2, 27, NAME), 8)
+    bad("too_many_levels", tileset("QUADTREE", 2, 33, NAME), 8)
+    bad("too_many_levels_of_an_octree", tileset("OCTREE", 2, 22, NAME), 8)
     bad("a_template_with_a_line_feed", tileset("QUADTREE", 2, 2, "a\nb"), 9)
     bad("both_contents", tileset("QUADTREE", 2, 2, NAME, contents=["a"], content="b"), 10)
     bad("a_content_without_its_uri", tileset("QUADTREE", 2, 2, NAME).replace(b'"implicitTiling"', b'"content":{},"implicitTiling"'), 11)
-    bad("nine_contents", tileset("QUADTREE", 2, 2, NAME, contents=["a"] * 9), 12)
+    bad("seventeen_contents", tileset("QUADTREE", 2, 2, NAME, contents=[f"a{c}" for c in range(17)]), 12)
 
 
 def device_cases():
@@ -103,12 +109,12 @@ def device_cases():
     shell("a_closed_output", tileset_a(), '"$VIEW" tiles 1 0,0 1,1 >&-; echo $?', "5\n", "the status of a write fault")
     pieces("pieces_of_short_lines", tileset_b(9, 18), ["tiles", "16", "0,0", "0,32767"],
            lines(*all_ones(2, 16, (0, 0), (0, 32767)), "end|complete|65536"))
-    long = pack('{"childSubtreeAvailability":{"constant":1},"contentAvailability":[' + ",".join(['{"constant":1}'] * 8)
+    long = pack('{"childSubtreeAvailability":{"constant":1},"contentAvailability":[' + ",".join(['{"constant":1}'] * 16)
                 + '],"tileAvailability":{"constant":1}}')
-    rows = ["|".join([str(l), *[str(2**l - 1)] * 2, *[str(2**l - 1) * 341] * 8]) for l in range(26)]
-    pieces("pieces_of_the_longest_lines", {"tileset.json": tileset("QUADTREE", 9, 26, "all.subtree", contents=["{x}" * 341] * 8),
-                                           "all.subtree": long}, ["tiles", "25", "33554431,33554431", "33554431,33554431"],
-           lines(*rows, "end|complete|26"))
+    rows = ["|".join([str(l), *[str(2**l - 1)] * 2, *[str(2**l - 1) * 341] * 16]) for l in range(32)]
+    pieces("pieces_of_the_longest_lines", {"tileset.json": tileset("QUADTREE", 9, 32, "all.subtree", contents=["{x}" * 341] * 16),
+                                           "all.subtree": long}, ["tiles", "31", "2147483647,2147483647", "2147483647,2147483647"],
+           lines(*rows, "end|complete|32"))
     shell("a_whole_answer_through_a_pipe", tileset_b(9, 18), '"$VIEW" tiles 16 0,0 0,32767 | wc -l', "65537\n", "65,537 lines")
 
 

@@ -46,11 +46,11 @@ digit_short true = lit< tt
 digit_short false = lit< tt
 
 -- a mask with one more bit above the others
-pub bit_above : (m c : ℕ) (b : Bool) → m < 2 ^ c → c < 8 → bit_or m (digit b * 2 ^ c % 2 ^ 8) ≡ m + digit b * 2 ^ c
+pub bit_above : (m c : ℕ) (b : Bool) → m < 2 ^ c → c < 16 → bit_or m (digit b * 2 ^ c % 2 ^ 16) ≡ m + digit b * 2 ^ c
 bit_above m c b h low =
-    let fits : 1 + c ≤ 8 = omega arith in
+    let fits : 1 + c ≤ 16 = omega arith in
     let sum : digit b * 2 ^ c + m ≡ m + digit b * 2 ^ c = omega arith in
-    ap (λ n. bit_or m n) (shl_whole (digit b) 1 c 8 (digit_short b) fits) ∙ or_comm m (digit b * 2 ^ c) ∙ or_shifted (digit b) c m h ∙ sum
+    ap (λ n. bit_or m n) (shl_whole (digit b) 1 c 16 (digit_short b) fits) ∙ or_comm m (digit b * 2 ^ c) ∙ or_shifted (digit b) c m h ∙ sum
 
 -- no content where the level isn't kept
 pub mask_of_none : {X : Type 0} (c : ℕ) (f : X → Bool) (xs : List X) → mask_of_bits c (map (λ x. false && f x) xs) ≡ 0
@@ -58,15 +58,15 @@ mask_of_none c f [] = refl
 mask_of_none c f (x ∷ xs) = omega (arith, mask_of_none (c + 1) f xs)
 
 -- one more content, as at a step of a loop
-pub mask_step : (contents : List (List Bool)) (place i m v : ℕ) (item : List Bool) (b : Bool) → i < length contents → length contents ≤ 8
+pub mask_step : (contents : List (List Bool)) (place i m v : ℕ) (item : List Bool) (b : Bool) → i < length contents → length contents ≤ 16
     → get_or contents i item ≡ item → b ≡ bit_at item place → v ≡ digit b → m ≡ mask_of_bits 0 (map (λ bits. bit_at bits place) (take i contents))
-    → bit_or m (v * 2 ^ i % 2 ^ 8) ≡ mask_of_bits 0 (map (λ bits. bit_at bits place) (take (i + 1) contents))
+    → bit_or m (v * 2 ^ i % 2 ^ 16) ≡ mask_of_bits 0 (map (λ bits. bit_at bits place) (take (i + 1) contents))
 mask_step contents place i m v item b low few at bit v_is so_far =
     let ones = map (λ bits. bit_at bits place) (take i contents) in
     let count : length ones ≡ i = length-map (take i contents) (λ bits. bit_at bits place) ∙ length-take-le i contents (omega arith) in
     let short : m < 2 ^ i = subst (λ n. n < 2 ^ i) (sym so_far) (mask_below ones i count) in
     let more : take (i + 1) contents ≡ take i contents ++ item ∷ [] = take_more contents i item low ∙ ap (λ x. take i contents ++ x ∷ []) at in
-    ap (λ n. bit_or m (n * 2 ^ i % 2 ^ 8)) v_is ∙ bit_above m i b short (omega arith)
+    ap (λ n. bit_or m (n * 2 ^ i % 2 ^ 16)) v_is ∙ bit_above m i b short (omega arith)
     ∙ ap (λ n. n + digit b * 2 ^ i) so_far ∙ ap (λ e. mask_of_bits 0 ones + digit b * 2 ^ e) (sym (zero-add (length ones) ∙ count))
     ∙ sym (mask_more 0 ones b) ∙ ap (λ x. mask_of_bits 0 (ones ++ x ∷ [])) bit
     ∙ ap (mask_of_bits 0) (sym (ap (map (λ bits. bit_at bits place)) more ∙ map-append (λ bits. bit_at bits place) (take i contents) (item ∷ [])))

@@ -42,11 +42,11 @@ below_limit : (scheme : Scheme) (l : ℕ) → l ≤ most_subtree_levels scheme �
 below_limit Quad l h = omega arith
 below_limit Oct l h = omega arith
 
-pub nodes_fit : (scheme : Scheme) (l : ℕ) → l ≤ most_subtree_levels scheme → nodes_above scheme l < 2 ^ 51
+pub nodes_fit : (scheme : Scheme) (l : ℕ) → l ≤ most_subtree_levels scheme → nodes_above scheme l < 2 ^ 62
 nodes_fit scheme l le =
     omega (arith, few_nodes scheme (nodes_above scheme l) (branching scheme ^ l) (nodes_times_rest scheme l), indices_fit scheme l (below_limit scheme l le))
 
-pub level_fits : (scheme : Scheme) (l : ℕ) → l ≤ most_subtree_levels scheme → branching scheme ^ l ≤ 2 ^ 51
+pub level_fits : (scheme : Scheme) (l : ℕ) → l ≤ most_subtree_levels scheme → branching scheme ^ l ≤ 2 ^ 62
 level_fits scheme l le = indices_fit scheme l (below_limit scheme l le)
 
 -- each place is that of a node

@@ -14,14 +14,14 @@ use tile_coords::Scheme;
 use tile_word::nodes_at;
 
 // The bits of each content at a place, the first of them lowest.
-pub(crate) fn mask_at(contents: &[Bits], place: u64) -> u8
+pub(crate) fn mask_at(contents: &[Bits], place: u64) -> u16
     requires few { length contents.now ≤ most_contents }
     requires within { All (λ bits. place < length bits) contents.now }
     ensures { result ≡ mask_of_bits 0 (map (λ bits. bit_at bits place) contents.now) }
 {
-    let mut mask = 0u8;
+    let mut mask = 0u16;
     for (content, bits) in contents.iter().enumerate() {
-        mask |= (bits.get(place) as u8) << content;
+        mask |= (bits.get(place) as u16) << content;
     }
     mask
 }

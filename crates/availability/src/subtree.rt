@@ -97,7 +97,7 @@ impl Subtree {
     }
 
     /// The contents of that node: bit c for content c (OGC 22-025r4, content availability).
-    pub fn contents_at(&self, local: u32, index: u64) -> u8
+    pub fn contents_at(&self, local: u32, index: u64) -> u16
         requires local { local < self.now.levels }
         requires index { index < branching self.now.scheme ^ local }
         ensures { result ≡ contents_mask self.now local index }

@@ -72,7 +72,7 @@ fn rules(rt: HostRuntime) -> Result<(), Fail> {
         let subtree = subtree(alloc, nodes(alloc, tiles)?, nodes(alloc, content)?, is_cut)?;
         assert!(rt; subtree.check() == wanted);
         assert!(rt; subtree.tile_at(0, 0) == (tiles & 1 == 1));
-        assert!(rt; subtree.contents_at(0, 0) == (content & 1) as u8);
+        assert!(rt; subtree.contents_at(0, 0) == (content & 1) as u16);
         assert!(rt; !subtree.child_at(63));
     }
     Ok(())

@@ -14,16 +14,16 @@ quad = record { scheme = Quad; subtree_levels = 2; levels = 3; subtree = codes "
 
 -- the root, a tile below it, and two of its children, each with its content
 unfoldable pub root_word : ℕ
-root_word = 2 ^ 51
+root_word = 2 ^ 64
 
 unfoldable pub inner_word : ℕ
-inner_word = 2 ^ 59 + 2 ^ 51 + 2
+inner_word = 2 ^ 80 + 2 ^ 64 + 2
 
 unfoldable pub first_word : ℕ
-first_word = 2 * 2 ^ 59 + 2 ^ 51 + 8
+first_word = 2 * 2 ^ 80 + 2 ^ 64 + 8
 
 unfoldable pub last_word : ℕ
-last_word = 2 * 2 ^ 59 + 2 ^ 51 + 11
+last_word = 2 * 2 ^ 80 + 2 ^ 64 + 11
 
 unfoldable pub words : List ℕ
 words = root_word ∷ inner_word ∷ first_word ∷ last_word ∷ []

@@ -103,5 +103,9 @@ unfolding digits corner
 check_of_corner = refl
 
 -- a tile word and its parts
-word_of_corner : word Quad (record { level = 1; x = 1; y = 1; z = 0 }) 1 ≡ 578712552117108739
+word_of_corner : word Quad (record { level = 1; x = 1; y = 1; z = 0 }) 1 ≡ 1208944266358702884257795
 word_of_corner = refl
+
+-- the last tile of the last level that a quadtree has
+last_index_of_quad : index Quad (record { level = 31; x = 2147483647; y = 2147483647; z = 0 }) ≡ 4611686018427387903
+last_index_of_quad = refl

@@ -1,4 +1,5 @@
--- The word of a tile: its level, the mask of its contents and its Morton index in one number (this project's own).
+-- The word of a tile: its level, the mask of its contents and its Morton index in one number (this project's own). Code
+-- holds it as two numbers of 64 bits: the higher is level * 2^16 + mask, the lower is the index.
 use Rattle.std.specs.Prelude.{ℕ, ◌+◌, ◌*◌, ◌/◌, ◌%◌, ◌^◌, ◌<◌}
 use Rattle.implicit_tiling.specs.declared.Scheme.{Scheme}
 use Rattle.implicit_tiling.specs.Limits.{most_levels}
@@ -8,10 +9,10 @@ use Rattle.implicit_tiling.specs.Availability.{mask}
 
 -- the places of the word's parts
 abbrev pub mask_place : ℕ
-mask_place = 51
+mask_place = 64
 
 abbrev pub level_place : ℕ
-level_place = 59
+level_place = 80
 
 abbrev pub word : Scheme → Tile → ℕ → ℕ
 word scheme t mask = t.level * 2 ^ level_place + mask * 2 ^ mask_place + index scheme t
@@ -25,7 +26,7 @@ abbrev pub word_level : ℕ → ℕ
 word_level w = w / 2 ^ level_place
 
 abbrev pub word_mask : ℕ → ℕ
-word_mask w = w / 2 ^ mask_place % 2 ^ 8
+word_mask w = w / 2 ^ mask_place % 2 ^ 16
 
 abbrev pub word_index : ℕ → ℕ
 word_index w = w % 2 ^ mask_place

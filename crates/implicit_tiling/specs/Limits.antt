@@ -5,8 +5,8 @@ use Rattle.implicit_tiling.specs.declared.Scheme.TheVariants.{Quad, Oct}
 
 -- the most levels in all, and in a subtree
 abbrev pub most_levels : Scheme → ℕ
-most_levels Quad = 26
-most_levels Oct = 18
+most_levels Quad = 32
+most_levels Oct = 21
 
 abbrev pub most_subtree_levels : Scheme → ℕ
 most_subtree_levels Quad = 10
@@ -14,7 +14,7 @@ most_subtree_levels Oct = 7
 
 -- the most contents of a tile
 abbrev pub most_contents : ℕ
-most_contents = 8
+most_contents = 16
 
 -- the most bytes of a file
 abbrev pub most_file_bytes : ℕ

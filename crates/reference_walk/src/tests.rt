@@ -10,6 +10,7 @@ use std::alloc::{AllocError, Global};
 use std::test::Fail;
 use subtree_outcome::WalkStop;
 use tile_coords::{Plan, Region, Scheme, WalkEnd, Word};
+use tile_word::word_at;
 use tileset_json::Layout;
 use uri_template::Template;
 
@@ -73,7 +74,7 @@ fn source(alloc: Global, failing: u64) -> Result<Alike, AllocError> {
 // A quadtree in subtrees of two levels, with no contents.
 fn layout(alloc: Global, levels: u32) -> Result<Layout, Fail>
     requires some { 1 ≤ levels }
-    requires few { levels ≤ 26 }
+    requires few { levels ≤ 32 }
     ensures { IfOk result (λ l. l.scheme ≡ Scheme.Quad) }
 {
     let mut text = String::new(alloc);
@@ -149,13 +150,13 @@ fn walk_of(
 }
 
 // The words of all tiles of a quadtree up to a level, which have no contents: by level, then by Morton index.
-fn by_level_then_index(alloc: Global, last: u64) -> Result<Vec<Word>, AllocError>
+fn by_level_then_index(alloc: Global, last: u32) -> Result<Vec<Word>, AllocError>
     requires { last ≤ 3 }
 {
     let mut words = Vec::new(alloc);
     for level in 0..last + 1 {
         for index in 0..1u64 << (2 * level) {
-            words.push(level << 59 | index)?;
+            words.push(word_at(level, index, 0))?;
         }
     }
     Ok(words)

@@ -10,6 +10,7 @@ use std::alloc::{AllocError, Global};
 use std::test::Fail;
 use tile_coords::{CheckEnd, Plan, Region, Scheme, WalkEnd, Word};
 use tile_walk::check_all;
+use tile_word::word_at;
 use tileset_json::Layout;
 use uri_template::Template;
 
@@ -27,20 +28,20 @@ const BY_PLACE: &str = "s/{level}/{x}/{y}.subtree";
 
 const ONE_FOR_ALL: &str = "all.subtree";
 
-// The word of a tile without contents: bit j of x, y and z stands at place axes * j and the next ones.
+// The word of a tile without contents: bit j of x, y and z stands at place axes * j of the index and the next ones.
 fn word(axes: u32, tile: Place) -> Word
     requires { axes ≤ 3 }
 {
     let (level, x, y, z) = tile;
-    let mut word = level << 59;
-    for bit in 0..18u32 {
-        word |= (x >> bit & 1) << (axes * bit) | (y >> bit & 1) << (axes * bit + 1);
-        word |= (z >> bit & 1) << (axes * bit + 2);
+    let mut index = 0;
+    for bit in 0..20u32 {
+        index |= (x >> bit & 1) << (axes * bit) | (y >> bit & 1) << (axes * bit + 1);
+        index |= (z >> bit & 1) << (axes * bit + 2);
     }
-    for bit in 18..26u32 {
-        word |= (x >> bit & 1) << (2 * bit) | (y >> bit & 1) << (2 * bit + 1);
+    for bit in 20..31u32 {
+        index |= (x >> bit & 1) << (2 * bit) | (y >> bit & 1) << (2 * bit + 1);
     }
-    word
+    word_at(level as u32, index, 0)
 }
 
 fn words(alloc: Global, axes: u32, tiles: &[Place]) -> Result<Vec<Word>, AllocError>
@@ -321,20 +322,20 @@ fn the_cut_and_its_neighbour(rt: HostRuntime) -> Result<(), Fail> {
 }
 
 #[test]
-fn one_path_down_to_level_25(rt: HostRuntime) -> Result<(), Fail> {
+fn one_path_down_to_the_last_level(rt: HostRuntime) -> Result<(), Fail> {
     let alloc = rt.alloc();
-    let layout = layout(alloc, Scheme::Quad, 9, 26, ONE_FOR_ALL)?;
-    let last = 33_554_431;
+    let layout = layout(alloc, Scheme::Quad, 9, 32, ONE_FOR_ALL)?;
+    let last = 2_147_483_647;
     let walked = walk_box(
         alloc,
         &layout,
         one_for_all(alloc)?,
-        25,
+        31,
         [last, last],
         [last, last],
     )?;
     let mut tiles = Vec::new(alloc);
-    for level in 0..26u64 {
+    for level in 0..32u64 {
         let greatest = (1u64 << level) - 1;
         tiles.push((level, greatest, greatest, 0))?;
     }

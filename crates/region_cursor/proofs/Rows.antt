@@ -45,7 +45,7 @@ key_is_root c key is at =
 pub children_are_next : (c : Cursor) (st : Subtree) (region : Region) → IsCursor c → FitsSubtree c st → IsSubtree st
     → All (IsRootAt c.scheme (root_level_of c + c.subtree_levels)) (child_words st region)
 children_are_next c st region is fits limits =
-    let short : 0 < 2 ^ 8 = omega arith in
+    let short : 0 < 2 ^ 16 = omega arith in
     let own = level_of_word st.scheme st.root 0 (omega (arith, limits.root_below_cut, limits.few_levels_in_all)) short in
     let key = (key_is_root c (word st.scheme st.root 0) is fits.key).root in
     let level : st.root.level + st.levels ≡ root_level_of c + c.subtree_levels = omega (arith, own, key.at_level, fits.same_levels) in

@@ -155,7 +155,7 @@ root_has_word s region k c on h =
     let low = ltb-true r.level s.layout.levels (and_parts (is_subtree_root s.layout r) (nat_lt r.level s.layout.levels) parts.0).1 in
     record { is_tile = is.tile; within = omega (arith, low, on.of_scene.few_levels) }
 
-short : 0 < 2 ^ 8
+short : 0 < 2 ^ 16
 short = omega arith
 
 root_of_key : (s : Scene) (region : Region) (k : ℕ) (c : Cursor) → IsUnderWay s region k c → c.position < length (row s region c)

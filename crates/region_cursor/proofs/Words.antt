@@ -28,14 +28,14 @@ mask_is_named st l m =
     let bits : List Bool = map (λ bits. node_bit st bits l m) st.contents in
     mask_below bits (length st.contents) (length-map st.contents (λ bits. node_bit st bits l m))
 
-mask_is_short : (st : Subtree) (l m : ℕ) → IsSubtree st → contents_mask st l m < 2 ^ 8
+mask_is_short : (st : Subtree) (l m : ℕ) → IsSubtree st → contents_mask st l m < 2 ^ 16
 mask_is_short st l m is =
     let few : length st.contents ≤ 8 = is.few_contents in
     omega (arith, mask_is_named st l m, pow_mono {i = length st.contents} {j = 8} few)
 
 pub root_word_is_root : (scheme : Scheme) (t : Tile) (level : ℕ) → t.level ≡ level → t.level < most_levels scheme → IsRootAt scheme level (word scheme t 0)
 root_word_is_root scheme t level at low =
-    let short : 0 < 2 ^ 8 = omega arith in
+    let short : 0 < 2 ^ 16 = omega arith in
     record { is_word = word_is_word scheme t 0 low short; no_contents = mask_of_word scheme t 0 low short; at_level = level_of_word scheme t 0 low short ∙ at }
 
 pub level_words_are_words : (st : Subtree) (region : Region) (l : ℕ) → IsSubtree st → All (IsTileWord st.scheme (length st.contents)) (level_words st region l)

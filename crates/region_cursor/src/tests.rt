@@ -12,7 +12,7 @@ use std::alloc::{AllocError, Global};
 use std::test::Fail;
 use subtree_outcome::Outcome;
 use tile_coords::{Plan, Region, Scheme, Tile, WalkEnd, Word};
-use tile_word::{nodes_at, tile_of};
+use tile_word::{nodes_at, tile_of, word_at};
 use tileset_json::Layout;
 use uri_template::Template;
 
@@ -82,7 +82,7 @@ fn layout(alloc: Global, subtree_levels: u32, levels: u32) -> Result<Layout, Fai
     requires some_subtree_levels { 1 ≤ subtree_levels }
     requires few_subtree_levels { subtree_levels ≤ 10 }
     requires some_levels { 1 ≤ levels }
-    requires few_levels { levels ≤ 26 }
+    requires few_levels { levels ≤ 32 }
     ensures { IfOk result (λ l. l.scheme ≡ Scheme.Quad) }
 {
     let mut text = String::new(alloc);
@@ -128,15 +128,19 @@ fn walk_of(
 fn walks(rt: HostRuntime) -> Result<(), Fail> {
     // the levels of a subtree and in all, the region's level and greatest coordinates, the key of a fault if it is one,
     // and the steps, the tiles and the end
-    let none = u64::MAX;
-    let child = 2 << 59 | 6;
+    let none = Word {
+        high: u64::MAX,
+        low: 0,
+    };
+    let root = word_at(0, 0, 0);
+    let child = word_at(2, 6, 0);
     let rows: [(u32, u32, u32, u32, Word, (usize, usize, WalkEnd)); 7] = [
         (2, 3, 2, 3, none, (18, 21, WalkEnd::Complete)),
         (2, 3, 1, 1, none, (2, 5, WalkEnd::Complete)),
         (1, 1, 0, 0, none, (1, 1, WalkEnd::Complete)),
         (1, 3, 2, 1, none, (6, 6, WalkEnd::Complete)),
         (9, 9, 8, 255, none, (9, 65536, WalkEnd::TooMany)),
-        (2, 3, 2, 3, 0, (1, 0, WalkEnd::Fault { root: 0, number: 3 })),
+        (2, 3, 2, 3, root, (1, 0, WalkEnd::Fault { root, number: 3 })),
         (
             2,
             3,

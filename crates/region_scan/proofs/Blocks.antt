@@ -118,10 +118,10 @@ outside_seen t region l k m nodes is le outside =
     (block_outside t region l k m le (ap (λ d. is_in region (node_at t (l - k) (m / d))) (sym is) ∙ outside))
 
 -- the indices of a level fit a number
-pub few_nodes : (s t : Subtree) (l : ℕ) → s ≡ t → IsSubtree s → l ≤ t.levels → branching t.scheme ^ l ≤ 2 ^ 51
+pub few_nodes : (s t : Subtree) (l : ℕ) → s ≡ t → IsSubtree s → l ≤ t.levels → branching t.scheme ^ l ≤ 2 ^ 62
 few_nodes s t l same is le =
     let low : l ≤ s.levels = subst (λ (u : Subtree). l ≤ u.levels) (sym same) le in
-    subst (λ (u : Subtree). branching u.scheme ^ l ≤ 2 ^ 51) same (level_fits s.scheme l (omega (arith, low, is.few_levels)))
+    subst (λ (u : Subtree). branching u.scheme ^ l ≤ 2 ^ 62) same (level_fits s.scheme l (omega (arith, low, is.few_levels)))
 
 pub few_levels : (s t : Subtree) (l : ℕ) → s ≡ t → IsSubtree s → l ≤ t.levels → l ≤ 26
 few_levels s t l same is le =

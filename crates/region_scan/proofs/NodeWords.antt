@@ -31,7 +31,7 @@ pub contents_below : (s : Subtree) (l m : ℕ) → contents_mask s l m < 2 ^ len
 contents_below s l m =
     mask_below (map (λ bits. node_bit s bits l m) s.contents) (length s.contents) (length-map s.contents (λ bits. node_bit s bits l m))
 
-few_masks : (s : Subtree) → IsSubtree s → 2 ^ length s.contents ≤ 2 ^ 8
+few_masks : (s : Subtree) → IsSubtree s → 2 ^ length s.contents ≤ 2 ^ 16
 few_masks s is = pow-le-pow_right (lit< tt) is.few_contents
 
 node_has_word : (s : Subtree) (l m : ℕ) → IsSubtree s → s.root.level + l < s.cut → HasWord s.scheme (node_at s l m)
@@ -42,10 +42,10 @@ node_has_word s l m is kept = record {
 
 -- the word of a node with a mask
 word_of_node : (s : Subtree) (region : Region) (l m mask masks : ℕ) → IsSubtree s → s.root.level + l < s.cut → m < branching s.scheme ^ l
-    → is_in region (node_at s l m) ≡ true → mask < masks → masks ≤ 2 ^ 8 → IsNodeWord s region l masks (word s.scheme (node_at s l m) mask)
+    → is_in region (node_at s l m) ≡ true → mask < masks → masks ≤ 2 ^ 16 → IsNodeWord s region l masks (word s.scheme (node_at s l m) mask)
 word_of_node s region l m mask masks is kept h here low few =
     let has = node_has_word s l m is kept in
-    let short : mask < 2 ^ 8 = omega arith in
+    let short : mask < 2 ^ 16 = omega arith in
     let level = level_of_word s.scheme (node_at s l m) mask has.within short ∙ node_level s l m in
     let tile = tile_of_word s.scheme (node_at s l m) mask has short in
     record {
@@ -112,10 +112,10 @@ found_words_are_words s region is = record {
 }
 
 -- of two that are found the first has the lower key
-tile_of_node : (s : Subtree) (l m mask : ℕ) → IsSubtree s → s.root.level + l < s.cut → mask < 2 ^ 8 → word_tile s.scheme (word s.scheme (node_at s l m) mask) ≡ node_at s l m
+tile_of_node : (s : Subtree) (l m mask : ℕ) → IsSubtree s → s.root.level + l < s.cut → mask < 2 ^ 16 → word_tile s.scheme (word s.scheme (node_at s l m) mask) ≡ node_at s l m
 tile_of_node s l m mask is kept short = tile_of_word s.scheme (node_at s l m) mask (node_has_word s l m is kept) short
 
-keys_rise : (s : Subtree) (l m n a b : ℕ) → IsSubtree s → s.root.level + l < s.cut → m < n → n < branching s.scheme ^ l → a < 2 ^ 8 → b < 2 ^ 8
+keys_rise : (s : Subtree) (l m n a b : ℕ) → IsSubtree s → s.root.level + l < s.cut → m < n → n < branching s.scheme ^ l → a < 2 ^ 16 → b < 2 ^ 16
     → is_key_below s.scheme (word_tile s.scheme (word s.scheme (node_at s l m) a)) (word_tile s.scheme (word s.scheme (node_at s l n) b)) ≡ true
 keys_rise s l m n a b is kept low h short_a short_b =
     ap (λ t. is_key_below s.scheme t (word_tile s.scheme (word s.scheme (node_at s l n) b))) (tile_of_node s l m a is kept short_a)

@@ -40,15 +40,15 @@ mask_within s t c (template ∷ templates) (b ∷ bits) =
     let twice : 2 ^ (c + 1) ≡ 2 ^ c * 2 = ap (λ n. 2 ^ n) (add-one c) ∙ pow-suc 2 c in
     omega (arith, rest, twice, bit_below s t c b)
 
-mask_fits : (s : Scene) (t : Tile) → length s.layout.contents ≤ 8 → mask s t < 2 ^ 8
+mask_fits : (s : Scene) (t : Tile) → length s.layout.contents ≤ 16 → mask s t < 2 ^ 16
 mask_fits s t few =
     let within : mask s t + 2 ^ 0 ≤ 2 ^ (0 + length s.layout.contents) = mask_within s t 0 s.layout.contents (content_bits_of (s.outcome (subtree_root s.layout t))) in
     let most : 0 + length s.layout.contents ≤ 8 = omega (arith, few) in
-    let small : 2 ^ (0 + length s.layout.contents) ≤ 2 ^ 8 = pow-le-pow_right (lit< tt) most in
+    let small : 2 ^ (0 + length s.layout.contents) ≤ 2 ^ 16 = pow-le-pow_right (lit< tt) most in
     omega (arith, within, small)
 
 -- the line by a tile's word is the tile's line
-line_is : (s : Scene) (t : Tile) → HasWord s.layout.scheme t → length s.layout.contents ≤ 8 → word_line s.layout (tile_word s t) ≡ tile_line s.layout t (mask s t)
+line_is : (s : Scene) (t : Tile) → HasWord s.layout.scheme t → length s.layout.contents ≤ 16 → word_line s.layout (tile_word s t) ≡ tile_line s.layout t (mask s t)
 line_is s t has few =
     let parts = words_have_their_parts s.layout.scheme t (mask s t) has (mask_fits s t few) in
     ap (λ u. tile_line s.layout u (word_mask (tile_word s t))) parts.tile ∙ ap (tile_line s.layout t) parts.mask

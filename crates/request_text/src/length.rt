@@ -41,7 +41,7 @@ fn length_of_word(layout: &Layout, word: Word) -> u64
     length_of_tile(layout, &tile, mask)
 }
 
-fn length_of_tile(layout: &Layout, tile: &Tile, mask: u8) -> u64
+fn length_of_tile(layout: &Layout, tile: &Tile, mask: u16) -> u64
     ensures length { result ≡ length (tile_line layout.now tile.now mask) }
     ensures short { result ≤ 100000 }
 {
@@ -107,7 +107,7 @@ fn length_of_place(scheme: Scheme, tile: &Tile) -> u64
 }
 
 // The length of the filled templates whose bit of the mask is 1, each with a TAB.
-fn length_of_contents(scheme: Scheme, contents: &[Template], tile: &Tile, mask: u8) -> u64
+fn length_of_contents(scheme: Scheme, contents: &[Template], tile: &Tile, mask: u16) -> u64
     requires { length contents.now ≤ 8 }
     ensures length { result ≡ length (flat_map after_tab (content_texts scheme tile.now mask 0 contents.now)) }
     ensures short { result ≤ 90000 }

@@ -12,21 +12,16 @@ use scene_ports::{GiveFault, MemoryLink};
 use std::alloc::{AllocError, Global};
 use std::test::Fail;
 use tile_coords::{CheckEnd, FoundFault, Scheme, WalkEnd, Word};
-use tile_word::tile_of;
+use tile_word::{tile_of, word_at};
 use tileset_json::Layout;
 use uri_template::Template;
-
-// The place of the level and of the mask in a word.
-const LEVEL: u64 = 1 << 59;
-
-const MASK: u64 = 1 << 51;
 
 fn template(alloc: Global, text: &str) -> Result<Template, Fail> {
     Ok(Template::new(String::from_str(alloc, text)?)?)
 }
 
 fn contents(alloc: Global) -> Result<Vec<Template>, Fail>
-    ensures { IfOk result (λ v. vec_len v ≤ 8) }
+    ensures { IfOk result (λ v. vec_len v ≤ 16) }
 {
     let mut contents = Vec::new(alloc);
     contents.push(template(alloc, "a{level}.{x}.{y}")?)?;
@@ -178,13 +173,13 @@ fn texts_of_answers(rt: HostRuntime) -> Result<(), Fail> {
     let octree = octree(alloc)?;
     // the root with no content, then the tiles (2,3,1) with one or both
     let words = [
-        0,
-        2 * LEVEL + MASK + 7,
-        2 * LEVEL + 2 * MASK + 7,
-        2 * LEVEL + 3 * MASK + 7,
+        word_at(0, 0, 0),
+        word_at(2, 7, 1),
+        word_at(2, 7, 2),
+        word_at(2, 7, 3),
     ];
     let fault = WalkEnd::Fault {
-        root: LEVEL + 3,
+        root: word_at(1, 3, 0),
         number: 16,
     };
     let rows: [(&Layout, WalkEnd, &str); 5] = [
@@ -228,11 +223,11 @@ fn texts_of_checks_and_refusals(rt: HostRuntime) -> Result<(), Fail> {
     let alloc = rt.alloc();
     let found = [
         FoundFault {
-            root: LEVEL + 2,
+            root: word_at(1, 2, 0),
             number: 3,
         },
         FoundFault {
-            root: 2 * LEVEL + 7,
+            root: word_at(2, 7, 0),
             number: 18,
         },
     ];
@@ -301,7 +296,7 @@ fn texts_of_made_tilesets(rt: HostRuntime) -> Result<(), Fail> {
 fn an_outlet_that_fails_has_a_front(rt: HostRuntime) -> Result<(), Fail> {
     let alloc = rt.alloc();
     let quadtree = quadtree(alloc)?;
-    let words = Vec::from_elem(alloc, 2 * LEVEL + 7, 6000)?;
+    let words = Vec::from_elem(alloc, word_at(2, 7, 0), 6000)?;
     let mut whole = link(alloc, &[])?;
     let mut front = link(alloc, &[2])?;
     assert!(rt; answer_to(alloc, &quadtree, &words, WalkEnd::Complete, &mut whole) == Some(Ok(())));

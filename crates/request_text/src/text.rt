@@ -85,7 +85,7 @@ fn push_word_line(layout: &Layout, word: Word, piece: &mut String) -> Result<(),
 fn push_tile_line(
     layout: &Layout,
     tile: &Tile,
-    mask: u8,
+    mask: u16,
     piece: &mut String,
 ) -> Result<(), AllocError>
     ensures { OnOk result (string_bytes piece.new ≡ string_bytes piece.old ++ tile_line layout.now tile.now mask) }
@@ -139,7 +139,7 @@ fn push_contents(
     scheme: Scheme,
     contents: &[Template],
     tile: &Tile,
-    mask: u8,
+    mask: u16,
     piece: &mut String,
 ) -> Result<(), AllocError>
     requires { length contents.now ≤ 8 }

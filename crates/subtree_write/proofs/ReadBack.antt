@@ -74,9 +74,9 @@ bytes_few (bits ∷ rest) h =
 
 -- ---- the JSON part
 
--- the availabilities of a subtree are at most ten
-ten : (s : Subtree) → IsSubtree s → length (availabilities_of s) ≤ 10
-ten s w = omega (arith, w.few_contents, length-append s.contents (s.child ∷ []))
+-- the availabilities of a subtree: tiles, contents, child subtrees
+availabilities_few : (s : Subtree) → IsSubtree s → length (availabilities_of s) ≤ 18
+availabilities_few s w = omega (arith, w.few_contents, length-append s.contents (s.child ∷ []))
 
 front_short : (xs ys : List (List Bool)) → AreShort (xs ++ ys) → AreShort xs
 front_short [] ys h = tt
@@ -94,7 +94,7 @@ small_parts : (s : Subtree) → IsSubtree s → HasSmallParts s
 small_parts s w =
     let xs = streams s in
     let short = all_short s w in
-    let few = ten s w in
+    let few = availabilities_few s w in
     let views = streams_few (availabilities_of s) in
     let fit = nodes_fit s.scheme s.levels w.few_levels in
     let streamed = streams_short (availabilities_of s) short in
@@ -117,15 +117,15 @@ value_reads s w =
 at_most : (few most : ℕ) (ds : Items) → ItemsWithin few ds → few ≤ most → ItemsWithin most ds
 at_most few most ds h fits later = omega (arith, h later, fits)
 
-value_short : (s : Subtree) → IsSubtree s → IsWithin 5400 (json_value s)
+value_short : (s : Subtree) → IsSubtree s → IsWithin 8600 (json_value s)
 value_short s w =
     let p = small_parts s w in
-    let few = ten s w in
+    let few = availabilities_few s w in
     let views = streams_few (availabilities_of s) in
     file_within (view_values 0 (streams s)) (length (binary s)) (availability_value 0 s.tiles) (availability_values (length (streams_of (s.tiles ∷ []))) s.contents)
     (availability_value (length (streams_of (s.tiles ∷ s.contents))) s.child)
-    (at_most (1 + 201 * length (streams s)) 2100 _ p.views.within (omega arith)) p.size p.tiles.within
-    (at_most (1 + 201 * length s.contents) 2100 _ p.contents.within (omega (arith, w.few_contents))) p.child.within
+    (at_most (1 + 201 * length (streams s)) 3700 _ p.views.within (omega arith)) p.size p.tiles.within
+    (at_most (1 + 201 * length s.contents) 3700 _ p.contents.within (omega (arith, w.few_contents))) p.child.within
 
 -- ---- no row of the table holds
 
@@ -230,7 +230,7 @@ assembled layout root file json bytes r s parts rec held =
     ap (λ p. and_then p (λ q. and_then (record_of q.json) (subtree_recorded layout root q.binary))) parts
     ∙ ap (λ p. and_then p (subtree_recorded layout root bytes)) rec ∙ held
 
-part_short : (text : List ℕ) → length text ≤ 5400 → length (padded 32 text) < 2 ^ 64
+part_short : (text : List ℕ) → length text ≤ 8600 → length (padded 32 text) < 2 ^ 64
 part_short text h = omega (arith, length-padded 32 text)
 
 own_reads_back : (s : Subtree) (template : List ℕ) (templates : List (List ℕ)) → IsSubtree s → KeepsRules s → length s.contents ≤ length templates → subtree_of (own_layout s template templates) s.root (canonical s) ≡ Ok s
@@ -242,7 +242,7 @@ own_reads_back s template templates w rules few =
     let size = length (binary s) in
     let contents = all_stated b s.contents in
     let h = held_of xs (stated 0 s.tiles) (map well_formed contents) (stated c s.child) in
-    let bytes_short : length (binary s) < 2 ^ 64 = omega (arith, bytes_few xs (streams_short (availabilities_of s) (all_short s w)), streams_few (availabilities_of s), ten s w) in
+    let bytes_short : length (binary s) < 2 ^ 64 = omega (arith, bytes_few xs (streams_short (availabilities_of s) (all_short s w)), streams_few (availabilities_of s), availabilities_few s w) in
     let holds : HoldsIt h contents s = record {
       tiles = names_own (stated 0 s.tiles) (map well_formed contents) (stated c s.child) (availabilities_of s) [] s.tiles (s.contents ++ s.child ∷ []) refl;
       contents_all = all_name (stated 0 s.tiles) (map well_formed contents) (stated c s.child) (availabilities_of s) (s.tiles ∷ []) s.contents (s.child ∷ []) refl;
@@ -267,13 +267,13 @@ good_from : (layout : Layout) (root : Tile) (file : List ℕ) (s : Subtree) → 
 good_from layout root file s short e =
     ap (λ b. cond b (bad 2) (outcome_from (subtree_of layout root file))) (le-ltb most_file_bytes (length file) short) ∙ ap outcome_from e
 
-file_short : (json bytes : List ℕ) → length json ≤ 5407 → length bytes ≤ 2 ^ 18 * 10 → length (file_of json bytes) ≤ most_file_bytes
+file_short : (json bytes : List ℕ) → length json ≤ 8607 → length bytes ≤ 2 ^ 18 * 18 → length (file_of json bytes) ≤ most_file_bytes
 file_short json bytes h k = omega (arith, length-file json bytes)
 
-text_short : (text : List ℕ) → length text ≤ 5400 → length (padded 32 text) ≤ 5407
+text_short : (text : List ℕ) → length text ≤ 8600 → length (padded 32 text) ≤ 8607
 text_short text h = omega (arith, length-padded 32 text)
 
 pub canonical_files_are_good : CanonicalFilesAreGood
 canonical_files_are_good layout s w of rules =
-    let few : length (binary s) ≤ 2 ^ 18 * 10 = omega (arith, bytes_few (streams s) (streams_short (availabilities_of s) (all_short s w)), streams_few (availabilities_of s), ten s w) in
+    let few : length (binary s) ≤ 2 ^ 18 * 18 = omega (arith, bytes_few (streams s) (streams_short (availabilities_of s) (all_short s w)), streams_few (availabilities_of s), availabilities_few s w) in
     good_from layout s.root (canonical s) s (file_short (json_part s) (binary s) (text_short (compact_text (json_value s)) (value_short s w)) few) (canonical_files_read_back layout s w of rules)

@@ -187,18 +187,18 @@ file_reads views size tiles contents child vs fits t cs below =
     ∙ list_step (codes "contentAvailability") contents m₁ f₃ cs ∙ member_step (codes "tileAvailability") tiles no_members f₄ t.whole
     ∙ ap Some (in_order views size tiles contents child))
 
-pub file_within : (views : List Data) (size : ℕ) (tiles : Data) (contents : List Data) (child : Data) → ItemsWithin 2100 (items_of views) → size < 2 ^ 32 → IsWithin 200 tiles → ItemsWithin 2100 (items_of contents) → IsWithin 200 child
-    → IsWithin 5400 (file_value views size tiles contents child)
+pub file_within : (views : List Data) (size : ℕ) (tiles : Data) (contents : List Data) (child : Data) → ItemsWithin 3700 (items_of views) → size < 2 ^ 32 → IsWithin 200 tiles → ItemsWithin 3700 (items_of contents) → IsWithin 200 child
+    → IsWithin 8600 (file_value views size tiles contents child)
 file_within views size tiles contents child vs fits t cs below =
     let buffers = buffer_values size views in
     let m₁ = member (codes "tileAvailability") tiles no_members in
     let m₂ = list_member (codes "contentAvailability") contents m₁ in
     let m₃ = member (codes "childSubtreeAvailability") child m₂ in
     let m₄ = list_member (codes "buffers") buffers m₃ in
-    object_within 5399 5400 (list_member (codes "bufferViews") views m₄)
-    (list_within 2100 3200 5399 (codes "bufferViews") views m₄ vs
-    (list_within 202 2900 3200 (codes "buffers") buffers m₃ (buffers_small size views fits).within
-    (member_within 200 2530 2900 (codes "childSubtreeAvailability") child m₂ below
-    (list_within 2100 310 2530 (codes "contentAvailability") contents m₁ cs
+    object_within 8599 8600 (list_member (codes "bufferViews") views m₄)
+    (list_within 3700 4800 8599 (codes "bufferViews") views m₄ vs
+    (list_within 202 4500 4800 (codes "buffers") buffers m₃ (buffers_small size views fits).within
+    (member_within 200 4130 4500 (codes "childSubtreeAvailability") child m₂ below
+    (list_within 3700 310 4130 (codes "contentAvailability") contents m₁ cs
     (member_within 200 1 310 (codes "tileAvailability") tiles no_members t no_members_within
     (omega arith)) (omega arith)) (omega arith)) (omega arith)) (omega arith)) (omega arith)

@@ -17,7 +17,7 @@ use Rattle.tiling_laws.proofs.Walk.{filter_same}
 use Rattle.walk_laws.proofs.Lists.{filter_none}
 use Rattle.walk_laws.proofs.Plain.{same_test}
 use Rattle.walk_laws.proofs.Runs.{run_fits}
-use Rattle.tile_word.proofs.Levels.{indices_fit, levels_below_32}
+use Rattle.tile_word.proofs.Levels.{indices_fit}
 use Rattle.tile_word.proofs.Parts.{index_of_parts}
 use Rattle.tile_word.proofs.Tiles.{index_is_short, key_is_that_of_the_tile, word_tile_is_tile, word_tile_fits, word_tile_level}
 use Rattle.tile_word.specs.Words.{word_key}
@@ -36,19 +36,19 @@ last_fits scheme r down =
     omega (arith, some, run_fits scheme down r (branching scheme ^ down - 1) (omega (arith, some)))
 
 pub index_fits : (scheme : Scheme) (r : Tile) (down level i n : ℕ) → r.level + down < most_levels scheme → r.level ≡ level → i ≡ index scheme r → n ≡ branching scheme ^ down
-    → (i * n < 2 ^ 51) × (i * n < branching scheme ^ (level + down))
+    → (i * n < 2 ^ 64) × (i * n < branching scheme ^ (level + down))
 index_fits scheme r down level i n few same at nodes =
     let product : index scheme r * branching scheme ^ down ≡ i * n = ap (λ j. j * branching scheme ^ down) (sym at) ∙ ap (λ m. i * m) (sym nodes) in
     let fits : i * n < branching scheme ^ (r.level + down) = subst (λ w. w < branching scheme ^ (r.level + down)) product (first_fits scheme r down) in
     (omega (arith, fits, indices_fit scheme (r.level + down) few), subst (λ l. i * n < branching scheme ^ (l + down)) same fits)
 
-pub first_key_is : (scheme : Scheme) (r : Tile) (down : ℕ) → first_key scheme r down ≡ (r.level + down) * 2 ^ 59 + index scheme r * branching scheme ^ down
+pub first_key_is : (scheme : Scheme) (r : Tile) (down : ℕ) → first_key scheme r down ≡ (r.level + down) * 2 ^ 80 + index scheme r * branching scheme ^ down
 first_key_is scheme r down =
     let start = index scheme r * branching scheme ^ down in
     omega (arith, tile_at_level scheme (r.level + down) start, index_of_tile_at scheme (r.level + down) start (first_fits scheme r down))
 
 -- numbers of two parts, of which the lower one is short
-parts_in_run : (l m i j n : ℕ) → i < 2 ^ 51 → j + n ≤ 2 ^ 51 → m * 2 ^ 59 + j ≤ l * 2 ^ 59 + i → l * 2 ^ 59 + i < m * 2 ^ 59 + j + n → (l ≡ m) × (j ≤ i) × (i < j + n)
+parts_in_run : (l m i j n : ℕ) → i < 2 ^ 64 → j + n ≤ 2 ^ 64 → m * 2 ^ 80 + j ≤ l * 2 ^ 80 + i → l * 2 ^ 80 + i < m * 2 ^ 80 + j + n → (l ≡ m) × (j ≤ i) × (i < j + n)
 parts_in_run l m i j n short few low high =
     elim (cases_order l m) [
       | inl same ↦ (same, omega arith, omega arith)
@@ -139,15 +139,11 @@ below_is_run layout scheme r down first n ws found same tile few are at nodes is
     ∙ run_is_below layout r down ws tile (subst (λ s. r.level + down < most_levels s) same few)
     (All-weaker (IsWordBelow layout.scheme layout.levels) (IsWord layout.scheme) (λ w h. h.is_word) ws are)
 
-pub run_is_short : (scheme : Scheme) (r : Tile) (down first n : ℕ) → r.level + down < most_levels scheme → first ≡ first_key scheme r down → n ≡ branching scheme ^ down → first + n < 2 ^ 64
-run_is_short scheme r down first n few at nodes =
-    omega (arith, at, nodes, first_key_is scheme r down, last_fits scheme r down, indices_fit scheme (r.level + down) few, levels_below_32 scheme (r.level + down) few)
-
 -- the run ends within the indices of its level
-pub run_ends : (scheme : Scheme) (r : Tile) (down first n : ℕ) → r.level + down < most_levels scheme → first ≡ first_key scheme r down → n ≡ branching scheme ^ down → word_index first + n ≤ 2 ^ 51
+pub run_ends : (scheme : Scheme) (r : Tile) (down first n : ℕ) → r.level + down < most_levels scheme → first ≡ first_key scheme r down → n ≡ branching scheme ^ down → word_index first + n < 2 ^ 64
 run_ends scheme r down first n few at nodes =
     let start = index scheme r * branching scheme ^ down in
     let fits = indices_fit scheme (r.level + down) few in
-    let apart : first ≡ (r.level + down) * 2 ^ 59 + 0 * 2 ^ 51 + start = omega (arith, at, first_key_is scheme r down) in
+    let apart : first ≡ (r.level + down) * 2 ^ 80 + 0 * 2 ^ 64 + start = omega (arith, at, first_key_is scheme r down) in
     let here : word_index first ≡ start = ap word_index apart ∙ index_of_parts (r.level + down) 0 start (omega (arith, fits, first_fits scheme r down)) in
     omega (arith, here, nodes, last_fits scheme r down, fits)

@@ -13,7 +13,7 @@ abbrev pub worked_layout : Layout
 worked_layout = record { scheme = Quad; subtree_levels = 2; levels = 3; subtree = codes "s.{level}.{x}.{y}.subtree"; contents = codes "c0.{level}.{x}.{y}.glb" ∷ [] }
 
 abbrev pub worked_words : List ℕ
-worked_words = 2 ^ 51 ∷ (2 ^ 59 + 2 ^ 51 + 2) ∷ (2 * 2 ^ 59 + 2 ^ 51 + 8) ∷ (2 * 2 ^ 59 + 2 ^ 51 + 11) ∷ []
+worked_words = 2 ^ 64 ∷ (2 ^ 80 + 2 ^ 64 + 2) ∷ (2 * 2 ^ 80 + 2 ^ 64 + 8) ∷ (2 * 2 ^ 80 + 2 ^ 64 + 11) ∷ []
 
 abbrev worked_roots : List Tile
 worked_roots = root ∷ record { level = 2; x = 0; y = 2; z = 0 } ∷ record { level = 2; x = 1; y = 3; z = 0 } ∷ []

@@ -46,8 +46,7 @@ fn first_key(scheme: Scheme, root: &Tile, levels: u32) -> Word
 // The words whose keys are among `count` words from `first` on.
 fn words_from<'w>(words: &'w [Word], first: Word, count: u64) -> &'w [Word]
     requires sorted { IsNonDecreasingBy word_key words.now }
-    requires index { word_index first + count ≤ 2 ^ mask_place }
-    requires fits { first + count < 2 ^ 64 }
+    requires index { word_index first + count < 2 ^ mask_place }
     ensures { result.now ≡ filter (is_key_in first count) words.now }
 {
     let start = count_below(words, first);

@@ -11,15 +11,20 @@ use tileset_json::Layout;
 use uri_template::Template;
 
 // The words of the tiles (0,0,0), (1,0,1), (2,0,2) and (2,1,3) of a quadtree, each with the first content.
-const LEVEL: Word = 1 << 59;
-
-const CONTENT: Word = 1 << 51;
-
 const WORDS: [Word; 4] = [
-    CONTENT,
-    LEVEL + CONTENT + 2,
-    2 * LEVEL + CONTENT + 8,
-    2 * LEVEL + CONTENT + 11,
+    Word { high: 1, low: 0 },
+    Word {
+        high: 1 << 16 | 1,
+        low: 2,
+    },
+    Word {
+        high: 2 << 16 | 1,
+        low: 8,
+    },
+    Word {
+        high: 2 << 16 | 1,
+        low: 11,
+    },
 ];
 
 const ROOT_JSON: &str =

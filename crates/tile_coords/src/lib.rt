@@ -6,12 +6,14 @@ mod plan;
 mod region;
 mod tile;
 mod walk_end;
+mod word;
 
 pub use implicit_tiling::Scheme;
 pub use plan::Plan;
 pub use region::{Region, RegionFault};
 pub use tile::Tile;
-pub use walk_end::{CheckEnd, FoundFault, WalkEnd, Word};
+pub use walk_end::{CheckEnd, FoundFault, WalkEnd};
+pub use word::Word;
 
 #[cfg(test)]
 mod tests;

@@ -1,5 +1,5 @@
 // What no clause says: each call succeeds on good arguments, and equality and hash are there.
-use crate::{Plan, Region, RegionFault, Scheme, Tile};
+use crate::{Plan, Region, RegionFault, Scheme, Tile, Word};
 use std::test::Fail;
 
 #[test]
@@ -36,6 +36,26 @@ fn tiles_and_regions(rt: HostRuntime) -> Result<(), Fail> {
                 assert!(rt; region.meets(&Tile::root()));
             }
             Err(fault) => assert!(rt; wanted == Err(fault)),
+        }
+    }
+    Ok(())
+}
+
+#[test]
+fn words_in_order(rt: HostRuntime) -> Result<(), Fail> {
+    let rows: [(u64, u64); 4] = [(0, 0), (0, u64::MAX), (1, 0), (1, 1)];
+    for (place, (high, low)) in rows.iter().enumerate() {
+        let word = Word {
+            high: *high,
+            low: *low,
+        };
+        for (other, (high, low)) in rows.iter().enumerate() {
+            let next = Word {
+                high: *high,
+                low: *low,
+            };
+            assert!(rt; (word < next) == (place < other));
+            assert!(rt; (word == next) == (place == other));
         }
     }
     Ok(())

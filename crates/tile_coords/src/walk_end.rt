@@ -1,8 +1,5 @@
-// Tile words, how a walk ends, and what a check finds.
-
-/// A tile in one number: its level, a mask of its contents and its Morton index. Only `tile_word` knows the
-/// places of these parts.
-pub type Word = u64;
+// How a walk ends, and what a check finds.
+use crate::word::Word;
 
 /// How a walk, or the part of it that was made so far, ends (this project's own).
 #[derive(Clone, Copy, Debug, PartialEq, Eq)]

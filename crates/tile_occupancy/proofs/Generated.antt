@@ -35,8 +35,8 @@ pub mask_below : (c level : ℕ) → generated_mask c level < 2 ^ c
 mask_below zero level = lit< tt
 mask_below (suc c) level = omega (arith, mask_below c level, at_most (level % suc c == 0) (2 ^ c), pow-suc 2 c)
 
-pub mask_fits : (c level : ℕ) → c ≤ most_contents → generated_mask c level < 2 ^ 8
-mask_fits c level few = let most : 2 ^ c ≤ 2 ^ 8 = pow-le-pow_right (lit< tt) few in omega (arith, mask_below c level, most)
+pub mask_fits : (c level : ℕ) → c ≤ most_contents → generated_mask c level < 2 ^ 16
+mask_fits c level few = let most : 2 ^ c ≤ 2 ^ 16 = pow-le-pow_right (lit< tt) few in omega (arith, mask_below c level, most)
 
 -- what the code hands over
 pub record Made (scheme : Scheme) (levels contents points number : ℕ) (ws : List ℕ) : Type 0 where

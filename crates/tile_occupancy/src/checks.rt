@@ -22,7 +22,7 @@ pub(crate) fn are_words(scheme: Scheme, levels: u32, words: &[Word]) -> bool
 fn is_word_below(scheme: Scheme, levels: u32, word: Word) -> bool
     ensures { Decides result (IsWordBelow scheme levels word) }
 {
-    is_word(scheme, word) && level_of(word) < levels
+    is_word(scheme, word) && level_of(word) < u64::from(levels)
 }
 
 // Whether the keys of the words' tiles strictly rise.

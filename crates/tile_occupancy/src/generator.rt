@@ -22,7 +22,7 @@ const Z_STEP: u64 = 20_011;
 /// An occupancy for tests and times: `points` tiles of the last level, spread by `number`, and all their ancestors.
 /// Content c stands on each tile whose level is a multiple of c + 1.
 ///
-/// The scheme's limit holds for `levels`, from 1 on, and there are at most 8 contents. An error is want of memory: the
+/// The scheme's limit holds for `levels`, from 1 on, and there are at most 16 contents. An error is want of memory: the
 /// words of each point's ancestors are in memory at once, and are sorted once.
 pub fn generate(
     alloc: Global,
@@ -134,7 +134,7 @@ fn spread(level: u32, number: u64) -> u32
 }
 
 // The mask of the contents that stand on the tiles of a level.
-fn level_mask(contents: u32, level: u32) -> u8
+fn level_mask(contents: u32, level: u32) -> u16
     requires { contents ≤ most_contents }
     ensures { result ≡ generated_mask contents level }
 {
@@ -144,5 +144,5 @@ fn level_mask(contents: u32, level: u32) -> u8
             mask += 1 << content;
         }
     }
-    mask as u8
+    mask as u16
 }

@@ -1,45 +1,49 @@
 // Worked lists of words, and generated ones.
 use crate::{Occupancy, OccupancyFault, generate};
+use std::alloc::{AllocError, Global};
 use std::test::Fail;
 use tile_coords::{Scheme, Tile, Word};
-use tile_word::word_of;
+use tile_word::{word_at, word_of};
 
-// The first word of a level, and one of the first content.
-const LEVEL: Word = 1 << 59;
-
-const CONTENT: Word = 1 << 51;
+// The words of tiles of these levels, indices and contents.
+fn words_of(alloc: Global, tiles: &[(u32, u64, u16)]) -> Result<Vec<Word>, AllocError> {
+    let mut words = Vec::new(alloc);
+    for (level, index, mask) in tiles {
+        words.push(word_at(*level, *index, *mask))?;
+    }
+    Ok(words)
+}
 
 #[test]
 fn first_faults(rt: HostRuntime) -> Result<(), Fail> {
-    // the levels in all, words of a quadtree, and what is wrong with them
+    // the levels in all, the level, index and mask of words of a quadtree, and what is wrong with them
     let bad = Some(OccupancyFault::BadWord);
     let order = Some(OccupancyFault::Order);
     let missing = Some(OccupancyFault::ParentMissing);
-    let rows: [(u32, &[Word], Option<OccupancyFault>); 16] = [
+    let rows: [(u32, &[(u32, u64, u16)], Option<OccupancyFault>); 16] = [
         (2, &[], None),
-        (2, &[0], None),
-        (2, &[LEVEL], missing),
-        (2, &[0, 0], order),
-        (2, &[0, CONTENT], order),
-        (2, &[2 * LEVEL], bad),
-        (2, &[0, LEVEL, 2 * LEVEL], bad),
-        (3, &[0, LEVEL, 2 * LEVEL], None),
-        (3, &[0, LEVEL + CONTENT, LEVEL + 3, 2 * LEVEL + 15], None),
-        (3, &[0, LEVEL, LEVEL + 3, 2 * LEVEL + 4], missing),
-        (3, &[0, 2 * LEVEL], missing),
-        (3, &[0, LEVEL + 3, LEVEL + CONTENT + 2], order),
-        (3, &[LEVEL, 0], order),
-        (2, &[LEVEL + 4, 0], bad),
-        (0, &[0], bad),
-        (27, &[26 * LEVEL], bad),
+        (2, &[(0, 0, 0)], None),
+        (2, &[(1, 0, 0)], missing),
+        (2, &[(0, 0, 0), (0, 0, 0)], order),
+        (2, &[(0, 0, 0), (0, 0, 1)], order),
+        (2, &[(2, 0, 0)], bad),
+        (2, &[(0, 0, 0), (1, 0, 0), (2, 0, 0)], bad),
+        (3, &[(0, 0, 0), (1, 0, 0), (2, 0, 0)], None),
+        (3, &[(0, 0, 0), (1, 0, 1), (1, 3, 0), (2, 15, 0)], None),
+        (3, &[(0, 0, 0), (1, 0, 0), (1, 3, 0), (2, 4, 0)], missing),
+        (3, &[(0, 0, 0), (2, 0, 0)], missing),
+        (3, &[(0, 0, 0), (1, 3, 0), (1, 2, 1)], order),
+        (3, &[(1, 0, 0), (0, 0, 0)], order),
+        (2, &[(1, 4, 0), (0, 0, 0)], bad),
+        (0, &[(0, 0, 0)], bad),
+        (33, &[(32, 0, 0)], bad),
     ];
-    for (levels, words, wanted) in rows {
-        let mut list = Vec::new(rt.alloc());
-        list.extend_from_slice(words)?;
-        match Occupancy::new(Scheme::Quad, levels, list) {
+    let alloc = rt.alloc();
+    for (levels, tiles, wanted) in rows {
+        match Occupancy::new(Scheme::Quad, levels, words_of(alloc, tiles)?) {
             Ok(occupancy) => {
                 assert!(rt; wanted.is_none());
-                assert!(rt; occupancy.words() == words);
+                assert!(rt; occupancy.words() == words_of(alloc, tiles)?.as_slice());
                 assert!(rt; occupancy.scheme() == Scheme::Quad);
                 assert!(rt; occupancy.levels() == levels);
             }
@@ -70,9 +74,8 @@ fn a_tile_without_the_root(rt: HostRuntime) -> Result<(), Fail> {
 fn a_whole_octree(rt: HostRuntime) -> Result<(), Fail> {
     let mut words = Vec::new(rt.alloc());
     for level in 0..4u32 {
-        let first = u64::from(level) << 59;
         for index in 0..1u64 << (3 * level) {
-            words.push(first + index)?;
+            words.push(word_at(level, index, 0))?;
         }
     }
     match Occupancy::new(Scheme::Oct, 4, words) {
@@ -86,19 +89,18 @@ fn a_whole_octree(rt: HostRuntime) -> Result<(), Fail> {
 fn generated(rt: HostRuntime) -> Result<(), Fail> {
     let alloc = rt.alloc();
     let quad = generate(alloc, Scheme::Quad, 3, 1, 2, 1)?;
-    let root = CONTENT;
-    let above = LEVEL + CONTENT + 2;
-    let last = 2 * LEVEL + CONTENT;
-    assert!(rt; quad.words() == [root, above, last + 8, last + 11].as_slice());
+    let wanted = words_of(alloc, &[(0, 0, 1), (1, 2, 1), (2, 8, 1), (2, 11, 1)])?;
+    assert!(rt; quad.words() == wanted.as_slice());
     let oct = generate(alloc, Scheme::Oct, 2, 2, 1, 5)?;
-    assert!(rt; oct.words() == [3 * CONTENT, LEVEL + CONTENT + 7].as_slice());
+    let wanted = words_of(alloc, &[(0, 0, 3), (1, 7, 1)])?;
+    assert!(rt; oct.words() == wanted.as_slice());
     assert!(rt;
-        generate(alloc, Scheme::Oct, 18, 8, 0, 0)?
+        generate(alloc, Scheme::Oct, 21, 16, 0, 0)?
             .words()
             .is_empty()
     );
-    let many = generate(alloc, Scheme::Quad, 26, 8, 200, u32::MAX)?;
+    let many = generate(alloc, Scheme::Quad, 32, 16, 200, u32::MAX)?;
     assert!(rt; many.words().len() > 200);
-    assert!(rt; many.words().len() < 200 * 26);
+    assert!(rt; many.words().len() < 200 * 32);
     Ok(())
 }

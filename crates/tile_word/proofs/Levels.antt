@@ -20,21 +20,21 @@ pub power_of_branching : (scheme : Scheme) (l : ℕ) → 2 ^ (axes scheme * l) �
 power_of_branching Quad l = power_of_4 l
 power_of_branching Oct l = power_of_8 l
 
-places_of_level : (scheme : Scheme) (l : ℕ) → l ≤ most_levels scheme → axes scheme * l < 64
+places_of_level : (scheme : Scheme) (l : ℕ) → l < most_levels scheme → axes scheme * l < 64
 places_of_level Quad l h = omega arith
 places_of_level Oct l h = omega arith
 
 -- the shift of a word by the places of a level
-pub shift_is_nodes : (scheme : Scheme) (a l : ℕ) → a ≡ axes scheme → l ≤ most_levels scheme → (1 * 2 ^ (a * l)) % 2 ^ 64 ≡ branching scheme ^ l
-shift_is_nodes scheme a l is le =
-    ap (λ n. (1 * 2 ^ (n * l)) % 2 ^ 64) is ∙ one_shl (axes scheme * l) 64 (places_of_level scheme l le) ∙ power_of_branching scheme l
+pub shift_is_nodes : (scheme : Scheme) (a l : ℕ) → a ≡ axes scheme → l < most_levels scheme → (1 * 2 ^ (a * l)) % 2 ^ 64 ≡ branching scheme ^ l
+shift_is_nodes scheme a l is low =
+    ap (λ n. (1 * 2 ^ (n * l)) % 2 ^ 64) is ∙ one_shl (axes scheme * l) 64 (places_of_level scheme l low) ∙ power_of_branching scheme l
 
 -- a level within a subtree is one within the limits
-pub few_levels : (scheme : Scheme) (l : ℕ) → l ≤ most_subtree_levels scheme → l ≤ most_levels scheme
+pub few_levels : (scheme : Scheme) (l : ℕ) → l ≤ most_subtree_levels scheme → l < most_levels scheme
 few_levels Quad l h = omega arith
 few_levels Oct l h = omega arith
 
-pub one_level : (scheme : Scheme) → 1 ≤ most_levels scheme
+pub one_level : (scheme : Scheme) → 1 < most_levels scheme
 one_level Quad = omega arith
 one_level Oct = omega arith
 
@@ -42,10 +42,10 @@ pub levels_below_32 : (scheme : Scheme) (l : ℕ) → l < most_levels scheme →
 levels_below_32 Quad l h = omega arith
 levels_below_32 Oct l h = omega arith
 
--- the indices of a level take 51 bits at most
-pub indices_fit : (scheme : Scheme) (l : ℕ) → l < most_levels scheme → branching scheme ^ l ≤ 2 ^ 51
-indices_fit Quad l h = let most : 4 ^ l ≤ 4 ^ 25 = pow-le-pow_right (lit< tt) (let le : l ≤ 25 = omega arith in le) in omega (arith, most)
-indices_fit Oct l h = let most : 8 ^ l ≤ 8 ^ 17 = pow-le-pow_right (lit< tt) (let le : l ≤ 17 = omega arith in le) in omega (arith, most)
+-- the indices of a level take 62 bits at most
+pub indices_fit : (scheme : Scheme) (l : ℕ) → l < most_levels scheme → branching scheme ^ l ≤ 2 ^ 62
+indices_fit Quad l h = let most : 4 ^ l ≤ 4 ^ 31 = pow-le-pow_right (lit< tt) (let le : l ≤ 31 = omega arith in le) in omega (arith, most)
+indices_fit Oct l h = let most : 8 ^ l ≤ 8 ^ 20 = pow-le-pow_right (lit< tt) (let le : l ≤ 20 = omega arith in le) in omega (arith, most)
 
 pub branching_at_1 : (scheme : Scheme) → branching scheme ^ 1 ≡ branching scheme
 branching_at_1 Quad = refl

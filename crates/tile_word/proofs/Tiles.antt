@@ -42,7 +42,7 @@ index_in_oct scheme t x y z oct is low ex ey ez =
 
 pub coordinate_in_oct : (scheme : Scheme) (l x : ℕ) → scheme ≡ Oct → l < most_levels scheme → x < 2 ^ l → x < 2 ^ 21
 coordinate_in_oct scheme l x oct low h =
-    let below : l < 18 = subst (λ s. l < most_levels s) oct low in
+    let below : l < 21 = subst (λ s. l < most_levels s) oct low in
     coordinate_fits x l 21 h (omega arith)
 
 -- what coordinates of an index are
@@ -97,25 +97,25 @@ tile_in_oct scheme level i x y z oct low h only =
 pub fits_at : (scheme : Scheme) (level i : ℕ) (t : Tile) → t ≡ tile_at scheme level i → IsTile scheme t
 fits_at scheme level i t is = subst (IsTile scheme) (sym is) (tile_at_is_tile scheme level i)
 
-pub index_is_short : (scheme : Scheme) (t : Tile) → t.level < most_levels scheme → index scheme t < 2 ^ 51
+pub index_is_short : (scheme : Scheme) (t : Tile) → t.level < most_levels scheme → index scheme t < 2 ^ 64
 index_is_short scheme t low = omega (arith, index_below scheme t, indices_fit scheme t.level low)
 
 -- a word has its parts
-pub level_of_word : (scheme : Scheme) (t : Tile) (m : ℕ) → t.level < most_levels scheme → m < 2 ^ 8 → word_level (word scheme t m) ≡ t.level
+pub level_of_word : (scheme : Scheme) (t : Tile) (m : ℕ) → t.level < most_levels scheme → m < 2 ^ 16 → word_level (word scheme t m) ≡ t.level
 level_of_word scheme t m low hm = level_of_parts t.level m (index scheme t) hm (index_is_short scheme t low)
 
-pub mask_of_word : (scheme : Scheme) (t : Tile) (m : ℕ) → t.level < most_levels scheme → m < 2 ^ 8 → word_mask (word scheme t m) ≡ m
+pub mask_of_word : (scheme : Scheme) (t : Tile) (m : ℕ) → t.level < most_levels scheme → m < 2 ^ 16 → word_mask (word scheme t m) ≡ m
 mask_of_word scheme t m low hm = mask_of_parts t.level m (index scheme t) hm (index_is_short scheme t low)
 
 pub index_of_word : (scheme : Scheme) (t : Tile) (m : ℕ) → t.level < most_levels scheme → word_index (word scheme t m) ≡ index scheme t
 index_of_word scheme t m low = index_of_parts t.level m (index scheme t) (index_is_short scheme t low)
 
-pub tile_of_word : (scheme : Scheme) (t : Tile) (m : ℕ) → HasWord scheme t → m < 2 ^ 8 → word_tile scheme (word scheme t m) ≡ t
+pub tile_of_word : (scheme : Scheme) (t : Tile) (m : ℕ) → HasWord scheme t → m < 2 ^ 16 → word_tile scheme (word scheme t m) ≡ t
 tile_of_word scheme t m has hm =
     ap (λ l. tile_at scheme l (word_index (word scheme t m))) (level_of_word scheme t m has.within hm)
     ∙ ap (λ i. tile_at scheme t.level i) (index_of_word scheme t m has.within) ∙ tile_at_index scheme t has.is_tile
 
-pub word_is_word : (scheme : Scheme) (t : Tile) (m : ℕ) → t.level < most_levels scheme → m < 2 ^ 8 → IsWord scheme (word scheme t m)
+pub word_is_word : (scheme : Scheme) (t : Tile) (m : ℕ) → t.level < most_levels scheme → m < 2 ^ 16 → IsWord scheme (word scheme t m)
 word_is_word scheme t m low hm =
     let level = level_of_word scheme t m low hm in
     record {
@@ -124,10 +124,10 @@ word_is_word scheme t m low hm =
           (subst (λ l. index scheme t < branching scheme ^ l) (sym level) (index_below scheme t));
     }
 
-pub word_fits : (scheme : Scheme) (t : Tile) (m : ℕ) → t.level < most_levels scheme → m < 2 ^ 8 → word scheme t m < 2 ^ 64
+pub word_fits : (scheme : Scheme) (t : Tile) (m : ℕ) → t.level < most_levels scheme → m < 2 ^ 16 → word scheme t m < 2 ^ 128
 word_fits scheme t m low hm = omega (arith, index_is_short scheme t low, levels_below_32 scheme t.level low)
 
-pub words_have_their_parts : (scheme : Scheme) (t : Tile) (m : ℕ) → HasWord scheme t → m < 2 ^ 8 → HasParts scheme t m (word scheme t m)
+pub words_have_their_parts : (scheme : Scheme) (t : Tile) (m : ℕ) → HasWord scheme t → m < 2 ^ 16 → HasParts scheme t m (word scheme t m)
 words_have_their_parts scheme t m has hm = record {
   is_word = word_is_word scheme t m has.within hm;
   fits = word_fits scheme t m has.within hm;
@@ -148,9 +148,9 @@ word_tile_is_tile scheme w = tile_at_is_tile scheme (word_level w) (word_index w
 pub parts_have_their_word : (scheme : Scheme) (w : ℕ) → IsWord scheme w → IsOfItsParts scheme w
 parts_have_their_word scheme w is = record {
   has_word = record { is_tile = word_tile_is_tile scheme w; within = word_tile_fits scheme w is.level_fits };
-  mask_fits = mod_below (w / 2 ^ 51) (2 ^ 8) (lit< tt);
-  word = ap (λ l. l * 2 ^ 59 + word_mask w * 2 ^ 51 + index scheme (word_tile scheme w)) (word_tile_level scheme w)
-      ∙ ap (λ i. word_level w * 2 ^ 59 + word_mask w * 2 ^ 51 + i) (index_of_tile_at scheme (word_level w) (word_index w) is.index_fits)
+  mask_fits = mod_below (w / 2 ^ 64) (2 ^ 16) (lit< tt);
+  word = ap (λ l. l * 2 ^ 80 + word_mask w * 2 ^ 64 + index scheme (word_tile scheme w)) (word_tile_level scheme w)
+      ∙ ap (λ i. word_level w * 2 ^ 80 + word_mask w * 2 ^ 64 + i) (index_of_tile_at scheme (word_level w) (word_index w) is.index_fits)
       ∙ parts_of_word w;
 }
 
@@ -162,10 +162,10 @@ key_is_that_of_the_tile scheme w is =
     omega (arith, level, index_is)
 
 -- the order of words
-level_first : (scheme : Scheme) (t u : Tile) (m n : ℕ) → t.level < most_levels scheme → m < 2 ^ 8 → t.level < u.level → word scheme t m < word scheme u n
+level_first : (scheme : Scheme) (t u : Tile) (m n : ℕ) → t.level < most_levels scheme → m < 2 ^ 16 → t.level < u.level → word scheme t m < word scheme u n
 level_first scheme t u m n low hm h = omega (arith, index_is_short scheme t low)
 
-key_from_word : (scheme : Scheme) (t u : Tile) (m : ℕ) → u.level < most_levels scheme → m < 2 ^ 8 → word scheme t m < word scheme u m → is_key_below scheme t u ≡ true
+key_from_word : (scheme : Scheme) (t u : Tile) (m : ℕ) → u.level < most_levels scheme → m < 2 ^ 16 → word scheme t m < word scheme u m → is_key_below scheme t u ≡ true
 key_from_word scheme t u m low hm h =
     elim (cases_order t.level u.level) [
       | inl same ↦ below_by_index scheme t u same (omega arith)
@@ -173,7 +173,7 @@ key_from_word scheme t u m low hm h =
       | inr (inr higher) ↦ absurd (omega (arith, level_first scheme u t m m low hm higher))
     ]
 
-word_from_key : (scheme : Scheme) (t u : Tile) (m : ℕ) → t.level < most_levels scheme → m < 2 ^ 8 → is_key_below scheme t u ≡ true → word scheme t m < word scheme u m
+word_from_key : (scheme : Scheme) (t u : Tile) (m : ℕ) → t.level < most_levels scheme → m < 2 ^ 16 → is_key_below scheme t u ≡ true → word scheme t m < word scheme u m
 word_from_key scheme t u m low hm h =
     elim (below_says scheme t u h) [
       | inl lower ↦ level_first scheme t u m m low hm lower

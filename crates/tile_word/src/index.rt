@@ -9,7 +9,7 @@ use tile_coords::{Scheme, Tile};
 /// How many tiles a level has, N^level.
 #[inline]
 pub fn nodes_at(scheme: Scheme, level: u32) -> u64
-    requires { level ≤ most_levels scheme }
+    requires { level < most_levels scheme }
     ensures { result ≡ branching scheme ^ level }
 {
     1 << (scheme.axes() * level)

@@ -16,7 +16,7 @@ use tile_coords::Scheme;
 use uri_template::Template;
 
 /// The most contents of a layout.
-pub const MOST_CONTENTS: usize = 8;
+pub const MOST_CONTENTS: usize = 16;
 
 /// What `tileset.json` says of the implicit tiles (OGC 22-025r4, implicit tiling: implicit root tile, subtrees).
 #[derive(Debug, Drop)]
@@ -24,11 +24,11 @@ pub struct Layout {
     pub scheme: Scheme,
     /// The levels of a subtree: 1 to 10 in a quadtree, 1 to 7 in an octree.
     pub subtree_levels: u32,
-    /// The levels in all: 1 to 26 in a quadtree, 1 to 18 in an octree.
+    /// The levels in all: 1 to 32 in a quadtree, 1 to 21 in an octree.
     pub levels: u32,
     /// The names of subtree files, filled with the subtree's root tile.
     pub subtree: Template,
-    /// The names of contents, at most 8.
+    /// The names of contents, at most 16.
     pub contents: Vec<Template>,
 }
 

@@ -9,9 +9,9 @@ use uri_template::Template;
 const HEAD: &str =
     "{\"asset\":{\"version\":\"1.1\"},\"root\":{\"boundingVolume\":{\"box\":[0.5,-1e3]},\"children\":[{\"implicitTiling\":1}],\"implicitTiling\":{\"subdivisionScheme\":\"QUADTREE\",\"subtreeLevels\":3,\"availableLevels\":5,\"subtrees\":{\"uri\":\"s/{level}/{x}/{y}\"}";
 
-const OCTREE: &str = ",\"subdivisionScheme\":\"OCTREE\",\"subtreeLevels\":7,\"availableLevels\":18";
+const OCTREE: &str = ",\"subdivisionScheme\":\"OCTREE\",\"subtreeLevels\":7,\"availableLevels\":21";
 
-const LARGEST: &str = ",\"subtreeLevels\":10,\"availableLevels\":26";
+const LARGEST: &str = ",\"subtreeLevels\":10,\"availableLevels\":32";
 
 type Read = Result<(Scheme, u32, u32, usize), u64>;
 
@@ -47,8 +47,8 @@ fn rows_of_the_table(rt: HostRuntime) -> Result<(), Fail> {
         ("", ",\"implicitTiling\":[]", Err(5)),
         (",\"subdivisionScheme\":\"quadtree\"", "", Err(6)),
         (",\"subdivisionScheme\":1", "", Err(6)),
-        (OCTREE, "", Ok((Scheme::Oct, 7, 18, 0))),
-        (LARGEST, "", Ok((Scheme::Quad, 10, 26, 0))),
+        (OCTREE, "", Ok((Scheme::Oct, 7, 21, 0))),
+        (LARGEST, "", Ok((Scheme::Quad, 10, 32, 0))),
         (
             ",\"subtreeLevels\":1,\"availableLevels\":1",
             "",
@@ -63,9 +63,9 @@ fn rows_of_the_table(rt: HostRuntime) -> Result<(), Fail> {
         ),
         (",\"subtreeLevels\":null", "", Err(7)),
         (",\"availableLevels\":0", "", Err(8)),
-        (",\"availableLevels\":27", "", Err(8)),
+        (",\"availableLevels\":33", "", Err(8)),
         (
-            ",\"subdivisionScheme\":\"OCTREE\",\"availableLevels\":19",
+            ",\"subdivisionScheme\":\"OCTREE\",\"availableLevels\":22",
             "",
             Err(8),
         ),
@@ -101,17 +101,17 @@ fn rows_of_the_table(rt: HostRuntime) -> Result<(), Fail> {
         ),
         (
             "",
-            ",\"contents\":[{\"uri\":\"\"},{\"uri\":\"\"},{\"uri\":\"\"},{\"uri\":\"\"},{\"uri\":\"\"},{\"uri\":\"\"},{\"uri\":\"\"},{\"uri\":\"\"}]",
-            quad(8),
+            ",\"contents\":[{\"uri\":\"\"},{\"uri\":\"\"},{\"uri\":\"\"},{\"uri\":\"\"},{\"uri\":\"\"},{\"uri\":\"\"},{\"uri\":\"\"},{\"uri\":\"\"},{\"uri\":\"\"},{\"uri\":\"\"},{\"uri\":\"\"},{\"uri\":\"\"},{\"uri\":\"\"},{\"uri\":\"\"},{\"uri\":\"\"},{\"uri\":\"\"}]",
+            quad(16),
         ),
         (
             "",
-            ",\"contents\":[{\"uri\":\"\"},{\"uri\":\"\"},{\"uri\":\"\"},{\"uri\":\"\"},{\"uri\":\"\"},{\"uri\":\"\"},{\"uri\":\"\"},{\"uri\":\"\"},{\"uri\":\"\"}]",
+            ",\"contents\":[{\"uri\":\"\"},{\"uri\":\"\"},{\"uri\":\"\"},{\"uri\":\"\"},{\"uri\":\"\"},{\"uri\":\"\"},{\"uri\":\"\"},{\"uri\":\"\"},{\"uri\":\"\"},{\"uri\":\"\"},{\"uri\":\"\"},{\"uri\":\"\"},{\"uri\":\"\"},{\"uri\":\"\"},{\"uri\":\"\"},{\"uri\":\"\"},{\"uri\":\"\"}]",
             Err(12),
         ),
         (
             "",
-            ",\"contents\":[{\"uri\":\"\"},{\"uri\":\"\"},{\"uri\":\"\"},{\"uri\":\"\"},{\"uri\":\"\"},{\"uri\":\"\"},{\"uri\":\"\"},{\"uri\":\"\"},1]",
+            ",\"contents\":[{\"uri\":\"\"},{\"uri\":\"\"},{\"uri\":\"\"},{\"uri\":\"\"},{\"uri\":\"\"},{\"uri\":\"\"},{\"uri\":\"\"},{\"uri\":\"\"},{\"uri\":\"\"},{\"uri\":\"\"},{\"uri\":\"\"},{\"uri\":\"\"},{\"uri\":\"\"},{\"uri\":\"\"},{\"uri\":\"\"},{\"uri\":\"\"},1]",
             Err(11),
         ),
         ("", "},\"root\":{", Err(5)),

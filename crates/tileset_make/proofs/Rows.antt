@@ -6,7 +6,7 @@ use Rattle.implicit_tiling.specs.Scene.{Layout}
 use Rattle.tileset_make.specs.declared.recipe.Recipe.{Recipe}
 use Rattle.tileset_make.specs.Recipes.{recipe_layout, recipe_files}
 
-worked : (contents : ℕ) → contents ≤ 8 → Recipe
+worked : (contents : ℕ) → contents ≤ 16 → Recipe
 worked contents few = record {
   scheme = Quad;
   levels = 3;

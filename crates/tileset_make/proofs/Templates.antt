@@ -30,7 +30,15 @@ quad (suc (suc (suc (suc zero)))) few = good (content_template Quad 4) refl refl
 quad (suc (suc (suc (suc (suc zero))))) few = good (content_template Quad 5) refl refl
 quad (suc (suc (suc (suc (suc (suc zero)))))) few = good (content_template Quad 6) refl refl
 quad (suc (suc (suc (suc (suc (suc (suc zero))))))) few = good (content_template Quad 7) refl refl
-quad (suc (suc (suc (suc (suc (suc (suc (suc content)))))))) few = absurd (omega arith)
+quad (suc (suc (suc (suc (suc (suc (suc (suc zero)))))))) few = good (content_template Quad 8) refl refl
+quad (suc (suc (suc (suc (suc (suc (suc (suc (suc zero))))))))) few = good (content_template Quad 9) refl refl
+quad (suc (suc (suc (suc (suc (suc (suc (suc (suc (suc zero)))))))))) few = good (content_template Quad 10) refl refl
+quad (suc (suc (suc (suc (suc (suc (suc (suc (suc (suc (suc zero))))))))))) few = good (content_template Quad 11) refl refl
+quad (suc (suc (suc (suc (suc (suc (suc (suc (suc (suc (suc (suc zero)))))))))))) few = good (content_template Quad 12) refl refl
+quad (suc (suc (suc (suc (suc (suc (suc (suc (suc (suc (suc (suc (suc zero))))))))))))) few = good (content_template Quad 13) refl refl
+quad (suc (suc (suc (suc (suc (suc (suc (suc (suc (suc (suc (suc (suc (suc zero)))))))))))))) few = good (content_template Quad 14) refl refl
+quad (suc (suc (suc (suc (suc (suc (suc (suc (suc (suc (suc (suc (suc (suc (suc zero))))))))))))))) few = good (content_template Quad 15) refl refl
+quad (suc (suc (suc (suc (suc (suc (suc (suc (suc (suc (suc (suc (suc (suc (suc (suc content)))))))))))))))) few = absurd (omega arith)
 
 oct : (content : ℕ) → content < most_contents → IsTemplateText (content_template Oct content)
 unfolding digits is_utf8 chars encode_utf8
@@ -42,7 +50,15 @@ oct (suc (suc (suc (suc zero)))) few = good (content_template Oct 4) refl refl
 oct (suc (suc (suc (suc (suc zero))))) few = good (content_template Oct 5) refl refl
 oct (suc (suc (suc (suc (suc (suc zero)))))) few = good (content_template Oct 6) refl refl
 oct (suc (suc (suc (suc (suc (suc (suc zero))))))) few = good (content_template Oct 7) refl refl
-oct (suc (suc (suc (suc (suc (suc (suc (suc content)))))))) few = absurd (omega arith)
+oct (suc (suc (suc (suc (suc (suc (suc (suc zero)))))))) few = good (content_template Oct 8) refl refl
+oct (suc (suc (suc (suc (suc (suc (suc (suc (suc zero))))))))) few = good (content_template Oct 9) refl refl
+oct (suc (suc (suc (suc (suc (suc (suc (suc (suc (suc zero)))))))))) few = good (content_template Oct 10) refl refl
+oct (suc (suc (suc (suc (suc (suc (suc (suc (suc (suc (suc zero))))))))))) few = good (content_template Oct 11) refl refl
+oct (suc (suc (suc (suc (suc (suc (suc (suc (suc (suc (suc (suc zero)))))))))))) few = good (content_template Oct 12) refl refl
+oct (suc (suc (suc (suc (suc (suc (suc (suc (suc (suc (suc (suc (suc zero))))))))))))) few = good (content_template Oct 13) refl refl
+oct (suc (suc (suc (suc (suc (suc (suc (suc (suc (suc (suc (suc (suc (suc zero)))))))))))))) few = good (content_template Oct 14) refl refl
+oct (suc (suc (suc (suc (suc (suc (suc (suc (suc (suc (suc (suc (suc (suc (suc zero))))))))))))))) few = good (content_template Oct 15) refl refl
+oct (suc (suc (suc (suc (suc (suc (suc (suc (suc (suc (suc (suc (suc (suc (suc (suc content)))))))))))))))) few = absurd (omega arith)
 
 pub content_is_template : (scheme : Scheme) (content : ℕ) → content < most_contents → IsTemplateText (content_template scheme content)
 content_is_template Quad = quad

@@ -12,11 +12,11 @@ const MOST_POINTS: u32 = 10_000;
 #[derive(Clone, Copy, Debug, PartialEq, Eq)]
 pub struct Recipe {
     pub scheme: Scheme,
-    /// The levels in all: 1 to 26 in a quadtree, 1 to 18 in an octree.
+    /// The levels in all: 1 to 32 in a quadtree, 1 to 21 in an octree.
     pub levels: u32,
     /// The levels of a subtree: 1 to 10 in a quadtree, 1 to 7 in an octree.
     pub subtree_levels: u32,
-    /// The contents: 0 to 8.
+    /// The contents: 0 to 16.
     pub contents: u32,
     /// The points of the last level: 1 to 10,000.
     pub points: u32,

@@ -24,8 +24,8 @@ unfolding digits is_utf8 chars serde_json_on_literals quad quad_text
 one_content_is_read = refl
 
 oct : Layout
-oct = record { scheme = Oct; subtree_levels = 7; levels = 18; subtree = codes "{z}"; contents = codes "a" ∷ codes "\"b" ∷ [] }
+oct = record { scheme = Oct; subtree_levels = 7; levels = 21; subtree = codes "{z}"; contents = codes "a" ∷ codes "\"b" ∷ [] }
 
-two_contents : layout_text oct ≡ codes "{\"asset\":{\"version\":\"1.1\"},\"geometricError\":1,\"root\":{\"boundingVolume\":{\"box\":[0,0,0,1,0,0,0,1,0,0,0,1]},\"contents\":[{\"uri\":\"a\"},{\"uri\":\"\\\"b\"}],\"geometricError\":1,\"implicitTiling\":{\"availableLevels\":18,\"subdivisionScheme\":\"OCTREE\",\"subtreeLevels\":7,\"subtrees\":{\"uri\":\"{z}\"}},\"refine\":\"ADD\"}}"
+two_contents : layout_text oct ≡ codes "{\"asset\":{\"version\":\"1.1\"},\"geometricError\":1,\"root\":{\"boundingVolume\":{\"box\":[0,0,0,1,0,0,0,1,0,0,0,1]},\"contents\":[{\"uri\":\"a\"},{\"uri\":\"\\\"b\"}],\"geometricError\":1,\"implicitTiling\":{\"availableLevels\":21,\"subdivisionScheme\":\"OCTREE\",\"subtreeLevels\":7,\"subtrees\":{\"uri\":\"{z}\"}},\"refine\":\"ADD\"}}"
 unfolding digits serde_json_on_literals oct
 two_contents = refl

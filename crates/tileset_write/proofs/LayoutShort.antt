@@ -29,13 +29,13 @@ uris_short [] all = no_items_within
 uris_short (t ∷ ts) all = item_within 6200 (6201 * length ts + 1) _ (uri_value t) (items_of (map uri_value ts)) (uri_short t (all 0 [] (omega arith)))
     (uris_short ts (λ i d lt. all (suc i) d (omega arith))) (omega arith)
 
-contents_short : (contents : List (List ℕ)) (ms : Members) (b : ℕ) → length contents ≤ 8 → All IsTemplateText contents → MembersWithin b ms → MembersWithin (b + 50000) (with_contents contents ms)
+contents_short : (contents : List (List ℕ)) (ms : Members) (b : ℕ) → length contents ≤ 16 → All IsTemplateText contents → MembersWithin b ms → MembersWithin (b + 100000) (with_contents contents ms)
 contents_short [] ms b few all h = λ later. omega (arith, h later)
 contents_short (t ∷ []) ms b few all h = member_within 6200 b _ (codes "content") (uri_value t) ms (uri_short t (all 0 [] (omega arith))) h (omega arith)
 contents_short (t ∷ u ∷ ts) ms b few all h =
     let uris = t ∷ u ∷ ts in
-    member_within 49800 b _ (codes "contents") (array (items_of (map uri_value uris))) ms
-    (array_within (6201 * length uris + 1) 49800 (items_of (map uri_value uris)) (uris_short uris all) (omega (arith, few))) h (omega arith)
+    member_within 99800 b _ (codes "contents") (array (items_of (map uri_value uris))) ms
+    (array_within (6201 * length uris + 1) 99800 (items_of (map uri_value uris)) (uris_short uris all) (omega (arith, few))) h (omega arith)
 
 name_short : (scheme : Scheme) → IsWithin 60 (string (scheme_name scheme))
 name_short Quad = omega (arith, string_within (codes "QUADTREE"))
@@ -77,14 +77,14 @@ asset_is = refl
 asset_short : IsWithin 100 asset_value
 asset_short = let P : List ℕ → Type 0 = λ text. length text ≤ 100 in subst P (sym asset_is) (omega arith)
 
-root_short : (contents : List (List ℕ)) (implicit : Data) → length contents ≤ 8 → All IsTemplateText contents → IsWithin 7001 implicit → IsWithin 60001 (root_value contents implicit)
+root_short : (contents : List (List ℕ)) (implicit : Data) → length contents ≤ 16 → All IsTemplateText contents → IsWithin 7001 implicit → IsWithin 110001 (root_value contents implicit)
 root_short contents implicit few all h =
     let m₅ = member (codes "refine") (string (codes "ADD")) no_members in
     let m₄ = member (codes "implicitTiling") implicit m₅ in
     let m₃ = member (codes "geometricError") (whole_number 1) m₄ in
     let m₂ = with_contents contents m₃ in
-    object_within 60000 60001 (member (codes "boundingVolume") box_value m₂)
-    (member_within 200 58000 60000 (codes "boundingVolume") box_value m₂ box_short
+    object_within 110000 110001 (member (codes "boundingVolume") box_value m₂)
+    (member_within 200 108000 110000 (codes "boundingVolume") box_value m₂ box_short
     (contents_short contents m₃ 8000 few all
     (member_within 2 7600 8000 (codes "geometricError") (whole_number 1) m₄ (number_short 1 (omega arith))
     (member_within 7001 100 7600 (codes "implicitTiling") implicit m₅ h
@@ -100,8 +100,8 @@ layout_texts_are_short layout h =
     let m₂ = member (codes "geometricError") (whole_number 1) m₃ in
     let inner = implicit_short scheme layout.subtree_levels layout.levels layout.subtree
     (subtree_levels_small scheme layout.subtree_levels h.limits.few_subtree_levels) (levels_small scheme layout.levels h.limits.few_levels) h.subtree in
-    object_within 61000 _ (member (codes "asset") asset_value m₂)
-    (member_within 100 60400 61000 (codes "asset") asset_value m₂ asset_short
-    (member_within 2 60200 60400 (codes "geometricError") (whole_number 1) m₃ (number_short 1 (omega arith))
-    (member_within 60001 1 60200 (codes "root") root no_members (root_short layout.contents implicit h.limits.few_contents h.contents inner) no_members_within (omega arith))
+    object_within 111000 _ (member (codes "asset") asset_value m₂)
+    (member_within 100 110400 111000 (codes "asset") asset_value m₂ asset_short
+    (member_within 2 110200 110400 (codes "geometricError") (whole_number 1) m₃ (number_short 1 (omega arith))
+    (member_within 110001 1 110200 (codes "root") root no_members (root_short layout.contents implicit h.limits.few_contents h.contents inner) no_members_within (omega arith))
     (omega arith)) (omega arith)) (omega arith)

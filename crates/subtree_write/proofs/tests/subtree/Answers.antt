@@ -17,7 +17,7 @@ invariant_of-result c =
       few_levels_in_all = lit≤ tt;
       root_below_cut = omega (arith, ap (λ (t : Tile). t.level) c.root.ensures);
       root_is_tile = subst (IsTile Quad) (sym c.root.ensures) (record { x_fits = lit< tt; y_fits = lit< tt; z_fits = lit< tt; flat = refl });
-      few_contents = subst (λ (xs : List (List Bool)). length xs ≤ 8) (sym one) (lit≤ tt);
+      few_contents = subst (λ (xs : List (List Bool)). length xs ≤ 16) (sym one) (lit≤ tt);
       tile_bits = c.in_ok-bits-2.ensures;
       content_bits = subst (All P) (sym one) (All-cons P content [] c.in_ok-bits.ensures (All-nil P));
       child_bits = c.in_ok-bits-3.ensures;

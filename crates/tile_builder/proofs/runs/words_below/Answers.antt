@@ -6,20 +6,13 @@ use Rattle.implicit_tiling.specs.Code.{IsWord}
 use Rattle.std.proofs.lemmas.List.Elements.{All-weaker}
 use Rattle.tile_occupancy.specs.Occupied.{IsWordBelow}
 use Rattle.tile_occupancy.proofs.Keys.{never_fall, rising_below}
-use Rattle.tile_builder.proofs.Below.{none_below, few_levels, below_is_run, run_is_short, run_ends}
+use Rattle.tile_builder.proofs.Below.{none_below, few_levels, below_is_run, run_ends}
 use Rattle.tile_builder.proofs.runs.words_below.Goals as goal
 
 pub returns-then-levels-layout : goal.returns-then-levels-layout
 returns-then-levels-layout c =
     sym (none_below c.args.layout.now c.args.root.now c.args.levels c.args.words.now c.requires.whole.are_words
     (omega (arith, c.if-levels-layout.true, ap (λ (l : Layout). l.levels) c.layout.view_is, ap (λ (t : Tile). t.level) c.root.view_is)))
-
-pub words_from-requires-clause-fits : goal.words_from-requires-clause-fits
-words_from-requires-clause-fits c =
-    let few : c.args.root.now.level + c.args.levels < most_levels c.layout.inside.scheme =
-    few_levels c.layout.inside.scheme (c.args.root.now.level + c.args.levels) c.layout.inside.levels
-    (omega (arith, c.if-levels-layout.false, ap (λ (t : Tile). t.level) c.root.view_is)) c.layout.invariant.few_levels in
-    run_is_short c.layout.inside.scheme c.args.root.now c.args.levels c.first_key-first.result c.nodes_at.result few c.first_key-first.ensures c.nodes_at.ensures
 
 pub words_from-requires-clause-index : goal.words_from-requires-clause-index
 words_from-requires-clause-index c =
