@@ -7,7 +7,7 @@ use Rattle.std.proofs.lemmas.Bool.{and_parts, eqb-true, false≢true}
 use Rattle.std.proofs.Math.Nat.{suc-ne-zero}
 use Rattle.implicit_tiling.specs.declared.Scheme.{Scheme}
 use Rattle.implicit_tiling.specs.declared.Scheme.TheVariants.{Quad, Oct}
-use Rattle.implicit_tiling.specs.Limits.{most_levels}
+use Rattle.implicit_tiling.specs.Limits.{most_levels, most_contents}
 use Rattle.implicit_tiling.specs.Checks.{refuse}
 use Rattle.implicit_tiling.specs.Tile.{Tile, axes, depth_of}
 use Rattle.implicit_tiling.specs.Files.{Files}
@@ -71,7 +71,7 @@ status_is scheme (Fault root number) too_many h = cc
 status_is scheme (Fault root number) (fault r n) h = refl
 
 -- the text by the words that were found is the text of the answer
-text_is : (s : Scene) (region : Region) (words : List ℕ) (end : WalkEnd) → IsAnswer s region words end → region.level < most_levels s.layout.scheme → length s.layout.contents ≤ 8
+text_is : (s : Scene) (region : Region) (words : List ℕ) (end : WalkEnd) → IsAnswer s region words end → region.level < most_levels s.layout.scheme → length s.layout.contents ≤ most_contents
     → words_text s.layout words (end_seen s.layout.scheme end) ≡ answer_text s (answer s region)
 text_is s region words end is low few =
     ap (λ ws. words_text s.layout ws (end_seen s.layout.scheme end)) is.words_are

@@ -30,8 +30,8 @@ mask_is_named st l m =
 
 mask_is_short : (st : Subtree) (l m : ℕ) → IsSubtree st → contents_mask st l m < 2 ^ 16
 mask_is_short st l m is =
-    let few : length st.contents ≤ 8 = is.few_contents in
-    omega (arith, mask_is_named st l m, pow_mono {i = length st.contents} {j = 8} few)
+    let few : length st.contents ≤ 16 = is.few_contents in
+    omega (arith, mask_is_named st l m, pow_mono {i = length st.contents} {j = 16} few)
 
 pub root_word_is_root : (scheme : Scheme) (t : Tile) (level : ℕ) → t.level ≡ level → t.level < most_levels scheme → IsRootAt scheme level (word scheme t 0)
 root_word_is_root scheme t level at low =

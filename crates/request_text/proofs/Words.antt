@@ -43,7 +43,7 @@ mask_within s t c (template ∷ templates) (b ∷ bits) =
 mask_fits : (s : Scene) (t : Tile) → length s.layout.contents ≤ 16 → mask s t < 2 ^ 16
 mask_fits s t few =
     let within : mask s t + 2 ^ 0 ≤ 2 ^ (0 + length s.layout.contents) = mask_within s t 0 s.layout.contents (content_bits_of (s.outcome (subtree_root s.layout t))) in
-    let most : 0 + length s.layout.contents ≤ 8 = omega (arith, few) in
+    let most : 0 + length s.layout.contents ≤ 16 = omega (arith, few) in
     let small : 2 ^ (0 + length s.layout.contents) ≤ 2 ^ 16 = pow-le-pow_right (lit< tt) most in
     omega (arith, within, small)
 
@@ -53,7 +53,7 @@ line_is s t has few =
     let parts = words_have_their_parts s.layout.scheme t (mask s t) has (mask_fits s t few) in
     ap (λ u. tile_line s.layout u (word_mask (tile_word s t))) parts.tile ∙ ap (tile_line s.layout t) parts.mask
 
-lines_are : (s : Scene) (ts : List Tile) → AllByRecursion (HasWord s.layout.scheme) ts → length s.layout.contents ≤ 8
+lines_are : (s : Scene) (ts : List Tile) → AllByRecursion (HasWord s.layout.scheme) ts → length s.layout.contents ≤ 16
     → flat_map (word_line s.layout) (map (tile_word s) ts) ≡ flat_map (λ t. tile_line s.layout t (mask s t)) ts
 lines_are s [] all few = refl
 lines_are s (t ∷ ts) all few = ap (λ w. w ++ flat_map (word_line s.layout) (map (tile_word s) ts)) (line_is s t all.0 few) ∙ ap (λ w. tile_line s.layout t (mask s t) ++ w) (lines_are s ts all.1 few)

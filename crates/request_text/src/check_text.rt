@@ -13,7 +13,7 @@ use scene_ports::{GiveFault, Outlet, give_rest, give_when_full};
 use std::alloc::{AllocError, Global};
 use tile_coords::{CheckEnd, FoundFault, Scheme};
 
-/// Gives the text of a check: a line for each fault that it found, and the end line, in pieces of up to 65,536 bytes.
+/// Gives the text of a check: a line for each fault that it found, and the end line, in pieces of up to 98,304 bytes.
 /// After an `Err` some front of the text was given.
 pub fn write_check<O: Outlet>(
     alloc: Global,

@@ -3,6 +3,7 @@ ghost use Rattle.std.specs.Prelude.{◌≡◌, ◌≤◌, ◌++◌, ◌∷◌, [
 ghost use Rattle.std.specs.List.{flat_map, All};
 ghost use Rattle.std.specs.Fmt.{decimal};
 ghost use Rattle.implicit_tiling.specs.Code.{IsWord, word_tile};
+ghost use Rattle.implicit_tiling.specs.Limits.{most_contents};
 ghost use Rattle.implicit_tiling.specs.Answer.{fault, most_tiles};
 ghost use Rattle.implicit_tiling.specs.Text.{coordinate_texts, content_texts, tile_line, word_line, words_text};
 ghost use Rattle.implicit_tiling.specs.Text.{end_line, step_end_line};
@@ -33,7 +34,7 @@ pub fn answer_length(layout: &Layout, words: &[Word], end: WalkEnd) -> u64
 fn length_of_word(layout: &Layout, word: Word) -> u64
     requires { IsWord layout.now.scheme word }
     ensures length { result ≡ length (word_line layout.now word) }
-    ensures short { result ≤ 100000 }
+    ensures short { result ≤ 180000 }
 {
     let Some(WordTile { tile, mask }) = tile_of(layout.scheme, word) else {
         unreachable!()
@@ -43,7 +44,7 @@ fn length_of_word(layout: &Layout, word: Word) -> u64
 
 fn length_of_tile(layout: &Layout, tile: &Tile, mask: u16) -> u64
     ensures length { result ≡ length (tile_line layout.now tile.now mask) }
-    ensures short { result ≤ 100000 }
+    ensures short { result ≤ 180000 }
 {
     length_of_place(layout.scheme, tile)
         + length_of_contents(layout.scheme, &layout.contents, tile, mask)
@@ -108,9 +109,9 @@ fn length_of_place(scheme: Scheme, tile: &Tile) -> u64
 
 // The length of the filled templates whose bit of the mask is 1, each with a TAB.
 fn length_of_contents(scheme: Scheme, contents: &[Template], tile: &Tile, mask: u16) -> u64
-    requires { length contents.now ≤ 8 }
+    requires { length contents.now ≤ most_contents }
     ensures length { result ≡ length (flat_map after_tab (content_texts scheme tile.now mask 0 contents.now)) }
-    ensures short { result ≤ 90000 }
+    ensures short { result ≤ 170000 }
 {
     let mut count = 0u64;
     for (content, template) in contents.iter().enumerate() {

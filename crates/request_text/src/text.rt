@@ -4,6 +4,7 @@ ghost use Rattle.std.specs.List.{flat_map, All};
 ghost use Rattle.std.specs.Fmt.{decimal};
 ghost use Rattle.std.specs.Io.KnownBytes.{Appends};
 ghost use Rattle.implicit_tiling.specs.Code.{IsWord, word_tile};
+ghost use Rattle.implicit_tiling.specs.Limits.{most_contents};
 ghost use Rattle.implicit_tiling.specs.Answer.{fault};
 ghost use Rattle.implicit_tiling.specs.Template.{filled};
 ghost use Rattle.implicit_tiling.specs.Text.{coordinate_texts, content_texts, tile_line, word_line, words_text};
@@ -21,7 +22,7 @@ use tile_word::{WordTile, tile_of};
 use tileset_json::Layout;
 use uri_template::Template;
 
-/// Gives the text of an answer: a line for each word, and the end line, in pieces of up to 65,536 bytes. After an `Err`
+/// Gives the text of an answer: a line for each word, and the end line, in pieces of up to 98,304 bytes. After an `Err`
 /// some front of the text was given.
 pub fn write_answer<O: Outlet>(
     alloc: Global,
@@ -142,7 +143,7 @@ fn push_contents(
     mask: u16,
     piece: &mut String,
 ) -> Result<(), AllocError>
-    requires { length contents.now ≤ 8 }
+    requires { length contents.now ≤ most_contents }
     ensures { OnOk result (string_bytes piece.new ≡ string_bytes piece.old
         ++ flat_map after_tab (content_texts scheme tile.now mask 0 contents.now)) }
 {

@@ -1,8 +1,8 @@
-use Rattle.std.proofs.Common.{◌≡◌, ◌∙◌, arith, take, take_all}
+use Rattle.std.proofs.Common.{◌≡◌, ◌++◌, ◌∙◌, ap, arith, take, take_all, string_bytes}
 use Rattle.scene_ports.proofs.Giving.{all_but_front}
 use Rattle.request_text.proofs.Joined.{on_ok}
 use Rattle.request_text.proofs.Lines.{lines_front, line_given, line_front, end_given, end_front}
-use Rattle.request_text.proofs.Found.{found_line, past_end, front_by_lines, given_by_lines}
+use Rattle.request_text.proofs.Found.{found_line, front_by_lines, given_by_lines}
 use Rattle.request_text.proofs.check_text.write_check.Goals as goal
 
 pub returns-in_err-push_fault_line-clause-front : goal.returns-in_err-push_fault_line-clause-front
@@ -13,12 +13,14 @@ returns-in_err-push_fault_line-clause-front g c =
 pub returns-in_err-give_when_full-clause-front : goal.returns-in_err-give_when_full-clause-front
 returns-in_err-give_when_full-clause-front g c =
     front_by_lines c.args.scheme c.args.found.now c.args.end _ _
-    (line_front _ _ _ (found_line c.args.scheme) c.args.found.now c.loop-fault.fault-index past_end _ _ _ (omega arith) c.loop-fault.invariant.lines c.in_ok-push_fault_line.ensures
+    (line_front _ _ _ (found_line c.args.scheme) c.args.found.now c.loop-fault.fault-index c.fault-item.result _ _ _ (omega arith) c.loop-fault.invariant.lines
+    (c.in_ok-push_fault_line.ensures ∙ ap (λ f. string_bytes c.loop-fault.piece ++ found_line c.args.scheme f) c.fault-item.is)
     c.give_when_full.ensures.front)
 
 pub loop-fault-preserved : goal.loop-fault-preserved
 loop-fault-preserved g c = record {
-  lines = line_given _ _ _ (found_line c.args.scheme) c.args.found.now c.loop-fault.fault-index past_end _ _ _ (omega arith) c.loop-fault.invariant.lines c.in_ok-push_fault_line.ensures
+  lines = line_given _ _ _ (found_line c.args.scheme) c.args.found.now c.loop-fault.fault-index c.fault-item.result _ _ _ (omega arith) c.loop-fault.invariant.lines
+    (c.in_ok-push_fault_line.ensures ∙ ap (λ f. string_bytes c.loop-fault.piece ++ found_line c.args.scheme f) c.fault-item.is)
       c.in_ok-give_when_full.ensures.given;
   later = omega (arith, c.give_when_full.ensures.later, c.loop-fault.invariant.later);
   aside = c.give_when_full.ensures.aside ∙ c.loop-fault.invariant.aside;

@@ -8,5 +8,5 @@ use Rattle.request_text.proofs.length.answer_length.Given as goal
 abbrev pub invariant-loop-word : goal.invariant-loop-word
 invariant-loop-word l = record {
   so_far : l.count ≡ length (flat_map (word_line l.layout) (take l.word-index l.words)) + length (step_end_line l.layout.scheme (length l.words) (end_seen l.layout.scheme l.fn.end));
-  few : l.count ≤ 200 + 100000 * l.word-index;
+  few : l.count ≤ 200 + 180000 * l.word-index;
 }

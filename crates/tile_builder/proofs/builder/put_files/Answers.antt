@@ -2,6 +2,8 @@ use Rattle.std.proofs.Common.{◌≡◌, ℕ, ◌<◌, false, List, [], ◌∷�
 use Rattle.std.specs.Prelude.{◌==◌}
 use Rattle.std.proofs.lemmas.Bool.{eqb-true, eqb-false}
 use Rattle.std.proofs.lemmas.Result.{err_from_is_err_and}
+use Rattle.std.proofs.lemmas.Grind.{get_or_default_zero}
+use Rattle.implicit_tiling.specs.Code.{word_tile}
 use Rattle.implicit_tiling.specs.Tile.{Tile}
 use Rattle.implicit_tiling.specs.Scene.{Layout}
 use Rattle.tile_builder.specs.Puts.{ArePut, IfTold}
@@ -32,7 +34,7 @@ pub put_file-requires-then-tile-layout-eq0-clause-root : goal.put_file-requires-
 put_file-requires-then-tile-layout-eq0-clause-root g c =
     root_is c.args.layout.now c.args.words.now c.loop-word.word-index c.word_tile-tile.result c.requires.words
     (root_by_level c.args.layout.now c.layout.inside.scheme c.args.words.now c.loop-word.word-index c.word_tile-tile.result c.tile.inside.level c.layout.inside.subtree_levels
-    c.loop-word-test.true (ap (λ (l : Layout). l.scheme) c.layout.view_is) c.word_tile-tile.ensures.tile (ap (λ (t : Tile). t.level) c.tile.view_is)
+    c.loop-word-test.true (ap (λ (l : Layout). l.scheme) c.layout.view_is) (c.word_tile-tile.ensures.tile ∙ ap (word_tile c.layout.inside.scheme) (c.word-item.is ∙ get_or_default_zero c.args.words.now c.loop-word.word-index c.word-item.result c.loop-word-test.true)) (ap (λ (t : Tile). t.level) c.tile.view_is)
     (ap (λ (l : Layout). l.subtree_levels) c.layout.view_is) c.if-tile-layout-eq0.true)
 
 pub returns-in_err-put_file-2-clause-stopped : goal.returns-in_err-put_file-2-clause-stopped
@@ -41,7 +43,7 @@ returns-in_err-put_file-2-clause-stopped g c =
     rw (p.1, p.2) (stop_at_root c.args.layout.now c.args.words.now c.loop-word.word-index c.word_tile-tile.result (g.K.FileKeeper.kept c.args.keeper.now) (g.K.FileKeeper.kept c.loop-word.keeper)
     (g.K.FileKeeper.kept c.put_file-then-tile-layout-eq0.new.keeper) c.in_err-put_file-2.field-0.0
     (root_by_level c.args.layout.now c.layout.inside.scheme c.args.words.now c.loop-word.word-index c.word_tile-tile.result c.tile.inside.level c.layout.inside.subtree_levels
-    c.loop-word-test.true (ap (λ (l : Layout). l.scheme) c.layout.view_is) c.word_tile-tile.ensures.tile (ap (λ (t : Tile). t.level) c.tile.view_is)
+    c.loop-word-test.true (ap (λ (l : Layout). l.scheme) c.layout.view_is) (c.word_tile-tile.ensures.tile ∙ ap (word_tile c.layout.inside.scheme) (c.word-item.is ∙ get_or_default_zero c.args.words.now c.loop-word.word-index c.word-item.result c.loop-word-test.true)) (ap (λ (t : Tile). t.level) c.tile.view_is)
     (ap (λ (l : Layout). l.subtree_levels) c.layout.view_is) c.if-tile-layout-eq0.true)
     c.loop-word.invariant.put c.in_err-put_file-2.ensures.stopped)
 
@@ -55,7 +57,7 @@ loop-word-preserved g c =
     elim c.if-tile-layout-eq0.branch [
       | then-tile-layout-eq0+in_ok-put_file-2 w ↦
           let at = root_by_level c.args.layout.now c.layout.inside.scheme c.args.words.now c.loop-word.word-index c.word_tile-tile.result c.tile.inside.level c.layout.inside.subtree_levels
-          c.loop-word-test.true (ap (λ (l : Layout). l.scheme) c.layout.view_is) c.word_tile-tile.ensures.tile (ap (λ (t : Tile). t.level) c.tile.view_is)
+          c.loop-word-test.true (ap (λ (l : Layout). l.scheme) c.layout.view_is) (c.word_tile-tile.ensures.tile ∙ ap (word_tile c.layout.inside.scheme) (c.word-item.is ∙ get_or_default_zero c.args.words.now c.loop-word.word-index c.word-item.result c.loop-word-test.true)) (ap (λ (t : Tile). t.level) c.tile.view_is)
           (ap (λ (l : Layout). l.subtree_levels) c.layout.view_is) w.if-tile-layout-eq0.true in
           record {
             put = rw w.keeper-is (put_root c.args.layout.now c.args.words.now c.loop-word.word-index c.word_tile-tile.result (g.K.FileKeeper.kept c.args.keeper.now)
@@ -66,7 +68,7 @@ loop-word-preserved g c =
           }
       | else-tile-layout-eq0 w ↦
           let same = other_by_level c.args.layout.now c.layout.inside.scheme c.args.words.now c.loop-word.word-index c.word_tile-tile.result c.tile.inside.level c.layout.inside.subtree_levels
-          c.loop-word-test.true (ap (λ (l : Layout). l.scheme) c.layout.view_is) c.word_tile-tile.ensures.tile (ap (λ (t : Tile). t.level) c.tile.view_is)
+          c.loop-word-test.true (ap (λ (l : Layout). l.scheme) c.layout.view_is) (c.word_tile-tile.ensures.tile ∙ ap (word_tile c.layout.inside.scheme) (c.word-item.is ∙ get_or_default_zero c.args.words.now c.loop-word.word-index c.word-item.result c.loop-word-test.true)) (ap (λ (t : Tile). t.level) c.tile.view_is)
           (ap (λ (l : Layout). l.subtree_levels) c.layout.view_is) w.if-tile-layout-eq0.false in
           record {
             put = rw w.keeper-is (subst (λ fs. IfTold (g.K.FileKeeper.kept c.args.keeper.now) (g.K.FileKeeper.kept c.loop-word.keeper) (ArePut fs)) (sym same) c.loop-word.invariant.put);
