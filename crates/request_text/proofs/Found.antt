@@ -41,10 +41,6 @@ pub given_by_lines : (scheme : Scheme) (found : List FoundFault) (end : CheckEnd
     → Appends before now (flat_map (found_line scheme) found ++ check_end_line end.more end.looked (length found)) → Appends before now (found_text scheme found end)
 given_by_lines scheme found end before now given = rw (← text_by_lines scheme found end) given
 
--- what stands for an element past the end
-abbrev pub past_end : FoundFault
-past_end = record { root = 0; number = 0 }
-
 -- a root of the limits is that of its word
 seen_again : (scheme : Scheme) (r : Tile) (n : ℕ) → HasWord scheme r → fault_seen scheme (found_of scheme (r, n)) ≡ (r, n)
 seen_again scheme r n has = ap (λ (t : Tile). (t, n)) (words_have_their_parts scheme r 0 has (lit< tt)).tile
