@@ -2,10 +2,10 @@
 use Rattle.std.proofs.Common.{◌≡◌, ℕ, suc, ◌+◌, ◌-◌, ◌%◌, ◌<◌, ◌≤◌, true, false, List, [], ◌∷◌, ◌++◌, length, map, take, drop, get_or, Option, Some, refl, sym, ap, subst, ◌∙◌, arith, append_assoc, append-nil, length-append}
 use Rattle.std.specs.Prelude.{option_map}
 use Rattle.std.specs.List.{flat_map, filter_map, cons_option, range_with_len}
-use Rattle.std.proofs.lemmas.List.{map-append, length-map, take_more, take-append-drop, take_all, length-take-le}
+use Rattle.std.proofs.lemmas.List.{map-append, length-map, take_more, take-append-drop, take_all, take-map, length-take, length-take-le}
 use Rattle.std.proofs.Math.Seq.{drop-cons}
 use Rattle.std.proofs.Math.Nat.{zero-mod}
-use Rattle.std.proofs.lemmas.List.Elements.{All-append, filter_map-append}
+use Rattle.std.proofs.lemmas.List.Elements.{All-append, All-take, filter_map-append}
 use Rattle.implicit_tiling.specs.declared.Scheme.{Scheme}
 use Rattle.implicit_tiling.specs.Tile.{Tile, IsTile, root}
 use Rattle.implicit_tiling.specs.Region.{Region}
@@ -35,11 +35,11 @@ use Rattle.tile_coords.specs.Found.{found_of}
 use Rattle.tile_walk.proofs.Words.{child_tiles}
 use Rattle.tile_walk.proofs.Roots.{child_is_root, decoded, first_tiles}
 
--- the roots above a level are looked at, and those of the level come next
+-- the roots above a level are looked at, and those of the level come next, as far as they are kept
 pub record IsCheckedTo (s : Scene) (level : ℕ) (roots : List ℕ) (looked : ℕ) (found : List FoundFault) : Type 0 where
   pub faults : found ≡ map (found_of s.layout.scheme) (filter_map (fault_at s) (reached_above s level))
   pub count : looked ≡ length (reached_above s level)
-  pub tiles : map (word_tile s.layout.scheme) roots ≡ walk_roots s (whole_of s) level
+  pub tiles : map (word_tile s.layout.scheme) roots ≡ take (most_roots + 1) (walk_roots s (whole_of s) level)
 
 -- the faults of some roots and then of others
 faults-append : (s : Scene) (rs ts : List Tile)
@@ -72,33 +72,36 @@ one_fault s level w n r old new root same is more =
     more ∙ ap (λ fs. old ++ fs) (sym (ap seen fault ∙ ap one (word_again s.layout level w root)))
 
 pub no_next : (s : Scene) (region : Region) (w n : ℕ) (r : Tile) (next : List ℕ) → 1 ≤ s.layout.subtree_levels → IsTile s.layout.scheme r → IsOnWalk s region w
-    → r ≡ word_tile s.layout.scheme w → s.outcome r ≡ bad n
-    → map (word_tile s.layout.scheme) next ≡ map (word_tile s.layout.scheme) next ++ roots_below s region (word_tile s.layout.scheme w)
-no_next s region w n r next some tile on same is =
+    → r ≡ word_tile s.layout.scheme w → s.outcome r ≡ bad n → length next ≤ most_roots + 1
+    → map (word_tile s.layout.scheme) next ≡ take (most_roots + 1) (map (word_tile s.layout.scheme) next ++ roots_below s region (word_tile s.layout.scheme w))
+no_next s region w n r next some tile on same is few =
     let t = word_tile s.layout.scheme w in
     let P : Tile → Type 0 = IsTile s.layout.scheme in
     let none = no_root_below_a_fault s region t n some (subst P same tile) (walk_is_root s region t on) (ap s.outcome (sym same) ∙ is) in
-    sym (append-nil (map (word_tile s.layout.scheme) next)) ∙ ap (λ ts. map (word_tile s.layout.scheme) next ++ ts) (sym none)
+    let kept = map (word_tile s.layout.scheme) next in
+    sym (take_all (most_roots + 1) kept (omega (arith, few, length-map next (word_tile s.layout.scheme))))
+    ∙ ap (take (most_roots + 1)) (sym (append-nil kept) ∙ ap (λ ts. kept ++ ts) (sym none))
 
 pub next_by_words : (s : Scene) (region : Region) (w : ℕ) (st : Subtree) (r : Tile) (old new : List ℕ) → IsSubtree st → IsFoundAt s.layout r st → r ≡ word_tile s.layout.scheme w
-    → IsOnWalk s region w → s.outcome r ≡ good (bits_of st) → new ≡ old ++ child_words st region
-    → map (word_tile s.layout.scheme) new ≡ map (word_tile s.layout.scheme) old ++ roots_below s region (word_tile s.layout.scheme w)
+    → IsOnWalk s region w → s.outcome r ≡ good (bits_of st) → new ≡ take (most_roots + 1) (old ++ child_words st region)
+    → map (word_tile s.layout.scheme) new ≡ take (most_roots + 1) (map (word_tile s.layout.scheme) old ++ roots_below s region (word_tile s.layout.scheme w))
 next_by_words s region w st r old new limits found same on is more =
     let f = word_tile s.layout.scheme in
     let made = decoded s region w st r limits found same on is in
-    ap (map f) more ∙ map-append f old (child_words st region)
-    ∙ ap (λ ts. map f old ++ ts) (child_tiles s region st made ∙ ap (roots_below s region) (found.at_root ∙ same))
+    ap (map f) more ∙ sym (take-map f (most_roots + 1) (old ++ child_words st region)) ∙ ap (take (most_roots + 1)) (map-append f old (child_words st region)
+    ∙ ap (λ ts. map f old ++ ts) (child_tiles s region st made ∙ ap (roots_below s region) (found.at_root ∙ same)))
 
 pub next_are_roots : (layout : Layout) (st : Subtree) (region : Region) (level : ℕ) (old new : List ℕ) → IsSubtree st → IsOf layout st → 1 ≤ layout.subtree_levels → st.root.level ≡ level
-    → AreRoots layout (level + layout.subtree_levels) old → new ≡ old ++ child_words st region → AreRoots layout (level + layout.subtree_levels) new
-next_are_roots layout st region level old new limits of some at are more =
+    → AreRoots layout (level + layout.subtree_levels) old → (n : ℕ) → new ≡ take n (old ++ child_words st region) → AreRoots layout (level + layout.subtree_levels) new
+next_are_roots layout st region level old new limits of some at are n more =
     let last = level + layout.subtree_levels - 1 in
     let next : last + 1 ≡ level + layout.subtree_levels = omega (arith, some) in
     let P : ℕ → Type 0 = λ l. AreRoots layout l (child_words st region) in
     let Q : List ℕ → Type 0 = AreRoots layout (level + layout.subtree_levels) in
     let each : AreRoots layout (last + 1) (child_words st region) =
     λ k d low. child_is_root layout st region last (get_or (child_words st region) k d) of some (omega (arith, at, of.same_levels, some)) ((found_words_are_words st region limits).children k d low) in
-    subst Q (sym more) (All-append (IsRootWord layout (level + layout.subtree_levels)) old (child_words st region) are (subst P next each))
+    let root = IsRootWord layout (level + layout.subtree_levels) in
+    subst Q (sym more) (All-take root n (old ++ child_words st region) (All-append root old (child_words st region) are (subst P next each)))
 
 pub roots_at : (layout : Layout) (level other : ℕ) (roots : List ℕ) → level ≡ other → AreRoots layout level roots → AreRoots layout other roots
 roots_at layout level other roots same are = let P : ℕ → Type 0 = λ l. AreRoots layout l roots in subst P same are
@@ -113,9 +116,13 @@ check_is_cut s level roots looked found new end is are counts more so =
     let low : i < length roots = omega (arith, cut.1, counts.some) in
     let r = are i 0 low in
     let before = map f (take i roots) in
-    let after = map f (drop (suc i) roots) in
-    let parts : walk_roots s (whole_of s) level ≡ before ++ f (get_or roots i 0) ∷ after =
+    let kept = map f (drop (suc i) roots) in
+    let left = drop (most_roots + 1) (walk_roots s (whole_of s) level) in
+    let after = kept ++ left in
+    let here : take (most_roots + 1) (walk_roots s (whole_of s) level) ≡ before ++ f (get_or roots i 0) ∷ kept =
     sym is.tiles ∙ ap (map f) (sym (take-append-drop i roots) ∙ ap (λ ws. take i roots ++ ws) (drop-cons roots i 0 low)) ∙ map-append f (take i roots) (get_or roots i 0 ∷ drop (suc i) roots) in
+    let parts : walk_roots s (whole_of s) level ≡ before ++ f (get_or roots i 0) ∷ after =
+    sym (take-append-drop (most_roots + 1) (walk_roots s (whole_of s) level)) ∙ ap (λ ts. ts ++ left) here ∙ append_assoc before (f (get_or roots i 0) ∷ kept) left in
     let done = reached_above s level ++ before in
     let rest = after ++ flat_map (reached_at s) (range_with_len (level + 1) (s.layout.levels - (level + 1))) in
     let all = reached_at_a_root s level before (f (get_or roots i 0)) after r.at_start r.below parts in
@@ -128,27 +135,32 @@ check_is_cut s level roots looked found new end is are counts more so =
       more_is = more ∙ ap (λ (k : Checked). k.more) (sym c);
     }
 
+-- where no more roots are kept than may be looked at, they are all
+all_are_kept : (ts rs : List Tile) → ts ≡ take (most_roots + 1) rs → length ts ≤ most_roots → ts ≡ rs
+all_are_kept ts rs is few = is ∙ take_all (most_roots + 1) rs (omega (arith, few, ap (length {A = Tile}) is, length-take (most_roots + 1) rs))
+
 -- a turn that goes on
 pub check_goes_on : (s : Scene) (level next_level : ℕ) (roots none next : List ℕ) (looked : ℕ) (found new : List FoundFault) (end : CheckEnd) → 1 ≤ s.layout.subtree_levels
     → level % s.layout.subtree_levels ≡ 0 → next_level ≡ level + s.layout.subtree_levels → IsCheckedTo s level roots looked found → Counts looked (length roots) end → end.more ≡ false
     → new ≡ found ++ found_faults s (take (end.looked - looked) roots) → none ≡ []
-    → map (word_tile s.layout.scheme) next ≡ map (word_tile s.layout.scheme) none ++ flat_map (λ w. roots_below s (whole_of s) (word_tile s.layout.scheme w)) roots
+    → map (word_tile s.layout.scheme) next ≡ take (most_roots + 1) (map (word_tile s.layout.scheme) none ++ flat_map (λ w. roots_below s (whole_of s) (word_tile s.layout.scheme w)) roots)
     → IsCheckedTo s next_level next end.looked new
 check_goes_on s level next_level roots none next looked found new end some start up is counts all so empty more =
     let f = word_tile s.layout.scheme in
     let whole = whole_of s in
     let count = counts.all all in
     let these = map f roots in
+    let tiles : these ≡ walk_roots s whole level = all_are_kept these (walk_roots s whole level) is.tiles (omega (arith, count, counts.few, length-map roots f)) in
     let taken : take (end.looked - looked) roots ≡ roots = take_all (end.looked - looked) roots (omega (arith, count)) in
-    let done : reached_above s (level + s.layout.subtree_levels) ≡ reached_above s level ++ these = reached_go_down s level some start ∙ ap (λ ts. reached_above s level ++ ts) (sym is.tiles) in
+    let done : reached_above s (level + s.layout.subtree_levels) ≡ reached_above s level ++ these = reached_go_down s level some start ∙ ap (λ ts. reached_above s level ++ ts) (sym tiles) in
     let P : ℕ → Type 0 = λ l. IsCheckedTo s l next end.looked new in
     let fw = map (found_of s.layout.scheme) in
     subst P (sym up) (record {
       faults = so ∙ ap (λ ws. found ++ found_faults s ws) taken ∙ ap (λ fs. fs ++ found_faults s roots) is.faults ∙ sym (faults-append s (reached_above s level) these)
           ∙ ap (λ ts. fw (filter_map (fault_at s) ts)) (sym done);
       count = omega (arith, count, is.count, ap (length {A = Tile}) done, length-append (reached_above s level) these, length-map roots f);
-      tiles = more ∙ ap (λ ws. map f ws ++ flat_map (λ w. roots_below s whole (f w)) roots) empty ∙ sym (flat_map-map (roots_below s whole) f roots)
-          ∙ ap (flat_map (roots_below s whole)) is.tiles ∙ sym (roots_go_down s whole level some start);
+      tiles = more ∙ ap (take (most_roots + 1)) (ap (λ ws. map f ws ++ flat_map (λ w. roots_below s whole (f w)) roots) empty ∙ sym (flat_map-map (roots_below s whole) f roots)
+          ∙ ap (flat_map (roots_below s whole)) tiles ∙ sym (roots_go_down s whole level some start));
     })
 
 -- all turns are done
@@ -169,5 +181,6 @@ pub check_begins : (s : Scene) (scheme : Scheme) (roots : List ℕ) (level : ℕ
     → level ≡ 0 → found ≡ [] → IsCheckedTo s level roots 0 found
 check_begins s scheme roots level found same some first start none =
     let tiles = first_tiles s (whole_of s) scheme roots same some (whole_is_a_region s.layout.scheme s.layout.levels) first in
+    let one = ap (length {A = Tile}) (sym tiles) ∙ length-map roots (word_tile s.layout.scheme) ∙ ap (length {A = ℕ}) first in
     let P : ℕ → Type 0 = λ l. IsCheckedTo s l roots 0 found in
-    subst P (sym start) (record { faults = none; count = refl; tiles = tiles })
+    subst P (sym start) (record { faults = none; count = refl; tiles = tiles ∙ sym (take_all (most_roots + 1) (walk_roots s (whole_of s) 0) (omega (arith, one))) })

@@ -1,11 +1,11 @@
 -- Subtree roots as words: the first one, those of child roots, and what their files hold.
-use Rattle.std.proofs.Common.{◌≡◌, ℕ, ◌+◌, ◌%◌, ◌<◌, ◌≤◌, true, List, [], ◌∷◌, ◌++◌, length, map, take, get_or, sym, ap, subst, ◌∙◌, arith, lit<, append_assoc, append-nil}
+use Rattle.std.proofs.Common.{◌≡◌, ℕ, zero, suc, ◌+◌, ◌%◌, ◌<◌, ◌≤◌, true, List, [], ◌∷◌, ◌++◌, length, map, take, get_or, refl, sym, ap, subst, ◌∙◌, arith, lit<, append_assoc, append-nil}
 use Rattle.std.specs.List.{flat_map, All}
 use Rattle.std.proofs.lemmas.List.{get_or-map, length-map, take_more}
 use Rattle.std.proofs.lemmas.Grind.{flat_map-append}
 use Rattle.std.proofs.Math.Nat.{zero-mod}
 use Rattle.std.proofs.lemmas.Bool.{and_parts}
-use Rattle.std.proofs.lemmas.List.Elements.{All-nil, All-cons, filter_passes}
+use Rattle.std.proofs.lemmas.List.Elements.{All-nil, All-cons, All-take, filter_passes}
 use Rattle.implicit_tiling.specs.declared.Scheme.{Scheme}
 use Rattle.implicit_tiling.specs.declared.Scheme.TheVariants.{Quad, Oct}
 use Rattle.implicit_tiling.specs.Limits.{most_levels}
@@ -96,10 +96,37 @@ on_walk s region level roots is =
     of_map (λ r. is_on_walk s region r ≡ true) (word_tile s.layout.scheme) roots
     (subst P (sym is) (filter_passes (is_on_walk s region) (tiles_of_level s.layout.scheme (root_level s.layout level))))
 
+-- and those that are kept of such roots
+pub kept_on_walk : (s : Scene) (region : Region) (level n : ℕ) (roots : List ℕ) → map (word_tile s.layout.scheme) roots ≡ take n (walk_roots s region level)
+    → All (λ w. is_on_walk s region (word_tile s.layout.scheme w) ≡ true) roots
+kept_on_walk s region level n roots is =
+    let P : List Tile → Type 0 = All (λ r. is_on_walk s region r ≡ true) in
+    of_map (λ r. is_on_walk s region r ≡ true) (word_tile s.layout.scheme) roots
+    (subst P (sym is) (All-take (λ r. is_on_walk s region r ≡ true) n (walk_roots s region level)
+    (filter_passes (is_on_walk s region) (tiles_of_level s.layout.scheme (root_level s.layout level)))))
+
+-- what one root more brings
+one_more : (f : ℕ → Tile) (g : ℕ → List Tile) (roots old : List ℕ) (i : ℕ) → i < length roots
+    → (map f old ++ flat_map g (take i roots)) ++ g (get_or roots i 0) ≡ map f old ++ flat_map g (take (i + 1) roots)
+one_more f g roots old i low =
+    let r = get_or roots i 0 in
+    append_assoc (map f old) (flat_map g (take i roots)) (g r)
+    ∙ ap (λ w. map f old ++ w) (ap (λ w. flat_map g (take i roots) ++ w) (sym (append-nil (g r))) ∙ sym (flat_map-append g (take i roots) (r ∷ [])) ∙ ap (flat_map g) (sym (take_more roots i 0 low)))
+
 -- the roots that follow, root by root
 pub one_next_more : (f : ℕ → Tile) (g : ℕ → List Tile) (roots old mid new : List ℕ) (i : ℕ) → i < length roots
     → map f mid ≡ map f old ++ flat_map g (take i roots) → map f new ≡ map f mid ++ g (get_or roots i 0) → map f new ≡ map f old ++ flat_map g (take (i + 1) roots)
-one_next_more f g roots old mid new i low so is =
+one_next_more f g roots old mid new i low so is = is ∙ ap (λ w. w ++ g (get_or roots i 0)) so ∙ one_more f g roots old i low
+
+-- what is kept of some elements and then of more is what is kept of all
+kept_more : {X : Type 0} (n : ℕ) (xs ys : List X) → take n (take n xs ++ ys) ≡ take n (xs ++ ys)
+kept_more zero xs ys = refl
+kept_more (suc n) [] ys = refl
+kept_more (suc n) (x ∷ xs) ys = ap (λ zs. x ∷ zs) (kept_more n xs ys)
+
+-- those of them that are kept, root by root
+pub one_kept_more : (f : ℕ → Tile) (g : ℕ → List Tile) (n : ℕ) (roots old mid new : List ℕ) (i : ℕ) → i < length roots
+    → map f mid ≡ take n (map f old ++ flat_map g (take i roots)) → map f new ≡ take n (map f mid ++ g (get_or roots i 0)) → map f new ≡ take n (map f old ++ flat_map g (take (i + 1) roots))
+one_kept_more f g n roots old mid new i low so is =
     let r = get_or roots i 0 in
-    is ∙ ap (λ w. w ++ g r) so ∙ append_assoc (map f old) (flat_map g (take i roots)) (g r)
-    ∙ ap (λ w. map f old ++ w) (ap (λ w. flat_map g (take i roots) ++ w) (sym (append-nil (g r))) ∙ sym (flat_map-append g (take i roots) (r ∷ [])) ∙ ap (flat_map g) (sym (take_more roots i 0 low)))
+    is ∙ ap (λ w. take n (w ++ g r)) so ∙ kept_more n (map f old ++ flat_map g (take i roots)) (g r) ∙ ap (take n) (one_more f g roots old i low)

@@ -1,5 +1,5 @@
 // The check of all subtree files of a tileset.
-ghost use Rattle.std.specs.Prelude.{◌≡◌, ◌+◌, ◌-◌, ◌*◌, ◌≤◌, ◌++◌, ◌∷◌, [], map, take, length, false, IfOk, IfErr};
+ghost use Rattle.std.specs.Prelude.{◌≡◌, ◌≢◌, ◌+◌, ◌-◌, ◌*◌, ◌≤◌, ◌++◌, ◌∷◌, [], map, take, length, false, IfOk, IfErr};
 ghost use Rattle.std.specs.Prelude.{IfSome, Err};
 ghost use Rattle.std.specs.List.{All, flat_map};
 ghost use Rattle.implicit_tiling.specs.Checked.{most_roots, checked};
@@ -7,7 +7,7 @@ ghost use Rattle.implicit_tiling.specs.Subtree.{IsSubtree};
 ghost use Rattle.implicit_tiling.specs.Nodes.{child_words};
 ghost use Rattle.implicit_tiling.specs.Code.{word_level, word_tile};
 ghost use Rattle.implicit_tileset.specs.Scene.{scene_of};
-ghost use Rattle.scene_ports.specs.Counts.{Rose};
+ghost use Rattle.scene_ports.specs.Counts.{Rose, one_more, more_by};
 ghost use Rattle.walk_laws.specs.Children.{roots_below};
 ghost use Rattle.walk_laws.specs.Regions.{whole};
 ghost use Rattle.tile_walk.specs.Checks.{found_faults, Counts, IsOnWalk, IsCheck, AreFaults};
@@ -26,6 +26,9 @@ use tileset_json::Layout;
 // The most roots that are looked at (this project's own).
 const MOST_ROOTS: u64 = 65536;
 
+// The most roots of a frontier that are kept: one more than are looked at shows that there are too many.
+const MOST_KEPT: usize = MOST_ROOTS as usize + 1;
+
 /// Looks at the subtree roots that are reached, in key order, up to 65,536 of them, each read once: `found` becomes the
 /// faults of their files, in that order. A faulty file has no roots below it (OGC 22-025r4, implicit tiling: child
 /// subtree availability). An Err leaves `found` as it was.
@@ -41,7 +44,9 @@ pub fn check_all<S: FileSource>(
     ensures few { IfOk result (λ end. end.looked ≤ most_roots) }
     ensures unchanged { IfErr result (λ stop. found.new.items ≡ found.old.items) }
     ensures failed { result ≡ Err WalkStop.ReadFault → Rose (S.faults files.old) (S.faults files.new) }
+    ensures sure { result ≢ Err WalkStop.ReadFault → S.faults files.new ≡ S.faults files.old }
     ensures later { S.faults files.old ≤ S.faults files.new }
+    ensures fetched { IfOk result (λ end. S.fetches files.new ≡ more_by end.looked (S.fetches files.old)) }
     ensures same { S.told files.new ≡ S.told files.old }
 {
     let plan = whole_plan(layout);
@@ -84,7 +89,9 @@ fn check<S: FileSource>(
     ensures faults { IfOk result (λ end. AreFaults layout.now.scheme found.new.items) }
     ensures few { IfOk result (λ end. end.looked ≤ most_roots) }
     ensures failed { result ≡ Err WalkStop.ReadFault → Rose (S.faults files.old) (S.faults files.new) }
+    ensures sure { result ≢ Err WalkStop.ReadFault → S.faults files.new ≡ S.faults files.old }
     ensures later { S.faults files.old ≤ S.faults files.new }
+    ensures fetched { IfOk result (λ end. S.fetches files.new ≡ more_by end.looked (S.fetches files.old)) }
     ensures same { S.told files.new ≡ S.told files.old }
 {
     let mut looked = 0;
@@ -120,6 +127,7 @@ fn check_roots<S: FileSource>(
 ) -> Result<CheckEnd, WalkStop>
     requires roots { AreRoots layout.now (turn * layout.now.subtree_levels) roots.now }
     requires next { AreRoots layout.now (turn * layout.now.subtree_levels + layout.now.subtree_levels) next.old.items }
+    requires kept { length next.old.items ≤ most_roots + 1 }
     requires faults { AreFaults layout.now.scheme found.old.items }
     requires few { looked ≤ most_roots }
     requires on_walk { IfSome (S.told files.old)
@@ -128,15 +136,19 @@ fn check_roots<S: FileSource>(
         (λ all. IfOk result (λ end. found.new.items ≡ found.old.items ++ found_faults (scene_of all layout.now)
         (take (end.looked - looked) roots.now))) }
     ensures roots { IfSome (S.told files.old) (λ all. IfOk result (λ end. end.more ≡ false
-        → map (word_tile layout.now.scheme) next.new.items ≡ map (word_tile layout.now.scheme) next.old.items
+        → map (word_tile layout.now.scheme) next.new.items
+        ≡ take (most_roots + 1) (map (word_tile layout.now.scheme) next.old.items
         ++ flat_map (λ w. roots_below (scene_of all layout.now) region.now (word_tile layout.now.scheme w))
-        roots.now)) }
+        roots.now))) }
     ensures next { IfOk result
         (λ end. AreRoots layout.now (turn * layout.now.subtree_levels + layout.now.subtree_levels) next.new.items) }
     ensures faults { IfOk result (λ end. AreFaults layout.now.scheme found.new.items) }
     ensures counted { IfOk result (Counts looked (length roots.now)) }
     ensures failed { result ≡ Err WalkStop.ReadFault → Rose (S.faults files.old) (S.faults files.new) }
+    ensures sure { result ≢ Err WalkStop.ReadFault → S.faults files.new ≡ S.faults files.old }
     ensures later { S.faults files.old ≤ S.faults files.new }
+    ensures fetched { IfOk result (λ end. S.fetches files.new
+        ≡ more_by (end.looked - looked) (S.fetches files.old)) }
     ensures same { S.told files.new ≡ S.told files.old }
 {
     let mut count = looked;
@@ -156,7 +168,7 @@ fn check_roots<S: FileSource>(
     })
 }
 
-// Looks at one root: its fault is noted, or its child roots are.
+// Looks at one root: its fault is noted, or its child roots are, as far as they are kept.
 fn check_root<S: FileSource>(
     alloc: Global,
     files: &mut S,
@@ -168,6 +180,7 @@ fn check_root<S: FileSource>(
 ) -> Result<(), WalkStop>
     requires root { IsRootWord layout.now (word_level root) root }
     requires next { AreRoots layout.now (word_level root + layout.now.subtree_levels) next.old.items }
+    requires kept { length next.old.items ≤ most_roots + 1 }
     requires faults { AreFaults layout.now.scheme found.old.items }
     requires on_walk { IfSome (S.told files.old) (λ all. IsOnWalk (scene_of all layout.now) region.now root) }
     ensures found { IfSome (S.told files.old)
@@ -175,13 +188,16 @@ fn check_root<S: FileSource>(
         (root ∷ []))) }
     ensures roots { IfSome (S.told files.old)
         (λ all. IfOk result (λ done. map (word_tile layout.now.scheme) next.new.items
-        ≡ map (word_tile layout.now.scheme) next.old.items ++ roots_below (scene_of all layout.now) region.now
-        (word_tile layout.now.scheme root))) }
+        ≡ take (most_roots + 1) (map (word_tile layout.now.scheme) next.old.items
+        ++ roots_below (scene_of all layout.now) region.now (word_tile layout.now.scheme root)))) }
     ensures next { IfOk result
         (λ done. AreRoots layout.now (word_level root + layout.now.subtree_levels) next.new.items) }
+    ensures kept { IfOk result (λ done. length next.new.items ≤ most_roots + 1) }
     ensures faults { IfOk result (λ done. AreFaults layout.now.scheme found.new.items) }
     ensures failed { result ≡ Err WalkStop.ReadFault → Rose (S.faults files.old) (S.faults files.new) }
+    ensures sure { result ≢ Err WalkStop.ReadFault → S.faults files.new ≡ S.faults files.old }
     ensures later { S.faults files.old ≤ S.faults files.new }
+    ensures fetched { IfOk result (λ done. S.fetches files.new ≡ one_more (S.fetches files.old)) }
     ensures same { S.told files.new ≡ S.told files.old }
 {
     let tile = root_tile(layout, root);
@@ -205,11 +221,18 @@ fn note(found: &mut Vec<FoundFault>, fault: FoundFault) -> Result<(), AllocError
     Ok(())
 }
 
-// Appends the child roots of a subtree.
+// Appends the child roots of a subtree, as far as they are kept.
 fn append_roots(subtree: &Subtree, region: &Region, next: &mut Vec<Word>) -> Result<(), AllocError>
+    requires kept { length next.old.items ≤ most_roots + 1 }
     ensures within_limits { IsSubtree subtree.now }
-    ensures appended { IfOk result (λ done. next.new.items ≡ next.old.items ++ child_words subtree.now region.now) }
+    ensures appended { IfOk result (λ done. next.new.items
+        ≡ take (most_roots + 1) (next.old.items ++ child_words subtree.now region.now)) }
 {
     let _levels = subtree.levels;
-    child_roots(subtree, region, next)
+    if next.len() == MOST_KEPT {
+        return Ok(());
+    }
+    child_roots(subtree, region, next)?;
+    next.truncate(MOST_KEPT);
+    Ok(())
 }

@@ -2,16 +2,23 @@ use Rattle.std.proofs.Common.{◌≡◌, ◌≤◌, ◌+◌, ◌-◌, ◌*◌, �
 use Rattle.std.specs.Prelude.{false}
 use Rattle.std.specs.List.{flat_map, All}
 use Rattle.std.proofs.lemmas.Nat.{mod-mul-add}
+use Rattle.implicit_tiling.specs.Checked.{most_roots}
 use Rattle.implicit_tiling.specs.Code.{word_tile}
 use Rattle.implicit_tiling.specs.Region.{Region}
 use Rattle.implicit_tiling.specs.Scene.{Layout}
 use Rattle.implicit_tileset.specs.Scene.{scene_of}
+use Rattle.scene_ports.specs.Counts.{more_by}
+use Rattle.tile_coords.specs.declared.walk_end.CheckEnd.{CheckEnd}
+use Rattle.tile_coords.specs.declared.walk_end.FoundFault.{FoundFault}
+use Rattle.tile_word.specs.Roots.{AreRoots}
+use Rattle.std.proofs.lemmas.List.Elements.{All-nil}
 use Rattle.walk_laws.specs.Children.{roots_below}
 use Rattle.walk_laws.specs.Frontiers.{whole_of}
-use Rattle.tile_walk.specs.Checks.{IsOnWalk, found_faults, Counts}
-use Rattle.subtree_outcome.proofs.Reading.{both_told, three_told, of_told, told_same}
-use Rattle.tile_walk.proofs.Roots.{on_walk}
-use Rattle.tile_walk.proofs.Checking.{IsCheckedTo, check_is_cut, check_goes_on, check_is_all, roots_at}
+use Rattle.tile_walk.specs.Checks.{IsOnWalk, found_faults, Counts, IsFault, AreFaults}
+use Rattle.subtree_outcome.proofs.Reading.{both_told, three_told, of_told, told_same, told_always}
+use Rattle.subtree_outcome.proofs.Counting.{none_more, then_more, stays}
+use Rattle.tile_walk.proofs.Roots.{kept_on_walk, first_roots_are}
+use Rattle.tile_walk.proofs.Checking.{IsCheckedTo, check_begins, check_is_cut, check_goes_on, check_is_all, roots_at}
 use Rattle.tile_walk.proofs.tileset.check.Goals as goal
 
 -- a level where subtrees begin
@@ -21,6 +28,41 @@ starts turn n some = let whole : turn * n ≡ turn * n + 0 = omega arith in ap (
 -- turns that are as many as the levels
 all_turns : (turn levels n : ℕ) → 1 ≤ n → levels ≤ turn → levels ≤ turn * n
 all_turns turn levels n some le = grind arith
+
+pub loop-turn-init : goal.loop-turn-init
+loop-turn-init g c =
+    let layout = c.args.layout.now in
+    let scheme = ap (λ (l : Layout). l.scheme) c.layout.view_is in
+    let levels = ap (λ (l : Layout). l.levels) c.layout.view_is in
+    let some : 1 ≤ layout.levels = omega (arith, levels, c.layout.invariant.some_levels) in
+    let roots = c.in_ok-roots.roots.items in
+    let none : List FoundFault → Type 0 = AreFaults layout.scheme in
+    record {
+      at = told_always (g.S.FileSource.told c.args.files.now) _
+          (λ all. check_begins (scene_of all layout) c.layout.inside.scheme roots _ c.args.found.now.items scheme some c.in_ok-roots.ensures (omega arith) c.requires.empty);
+      roots_are = roots_at layout 0 _ roots (omega arith) (first_roots_are layout c.layout.inside.scheme roots scheme some c.in_ok-roots.ensures);
+      faults_are = subst none (sym c.requires.empty) (All-nil (IsFault layout.scheme));
+      few = omega arith;
+      later = omega arith;
+      sure = refl;
+      fetched = sym (none_more _);
+      same = refl;
+    }
+
+pub check_roots-requires-clause-roots : goal.check_roots-requires-clause-roots
+check_roots-requires-clause-roots g c =
+    let P : List ℕ → Type 0 = AreRoots c.args.layout.now (c.loop-turn.turn * c.args.layout.now.subtree_levels) in
+    subst P (sym c.deref.ensures.value) c.loop-turn.invariant.roots_are
+
+-- the fetches of a turn, after those of the turns before it
+counted_to : (looked : ℕ) (end : CheckEnd) (begin mid now : ℕ) → mid ≡ more_by looked begin → now ≡ more_by (end.looked - looked) mid → looked ≤ end.looked → now ≡ more_by end.looked begin
+counted_to looked end begin mid now so more some =
+    let all : looked + (end.looked - looked) ≡ end.looked = omega (arith, some) in
+    then_more (end.looked - looked) looked begin mid now so more ∙ ap (λ n. more_by n begin) all
+
+pub returns-then-end-clause-fetched : goal.returns-then-end-clause-fetched
+returns-then-end-clause-fetched g c =
+    counted_to c.loop-turn.looked c.in_ok-end.end _ _ _ c.loop-turn.invariant.fetched c.in_ok-end.ensures.fetched c.in_ok-end.ensures.counted.some
 
 pub check_roots-requires-clause-on_walk : goal.check_roots-requires-clause-on_walk
 check_roots-requires-clause-on_walk g c =
@@ -32,7 +74,7 @@ check_roots-requires-clause-on_walk g c =
     (λ all at. let s = scene_of all layout in
     let P : Region → Type 0 = λ r. All (IsOnWalk s r) c.loop-turn.roots.items in
     let Q : List ℕ → Type 0 = All (IsOnWalk s region) in
-    subst Q (sym c.deref.ensures.value) (subst P (sym c.requires.region) (on_walk s (whole_of s) level c.loop-turn.roots.items at.tiles))) c.loop-turn.invariant.at in
+    subst Q (sym c.deref.ensures.value) (subst P (sym c.requires.region) (kept_on_walk s (whole_of s) level (most_roots + 1) c.loop-turn.roots.items at.tiles))) c.loop-turn.invariant.at in
     told_same (g.S.FileSource.told c.args.files.now) (g.S.FileSource.told c.loop-turn.files) _ (sym c.loop-turn.invariant.same) here
 
 pub returns-then-end-clause-checked : goal.returns-then-end-clause-checked
@@ -73,14 +115,14 @@ loop-turn-preserved g c =
     record {
       at = three_told (g.S.FileSource.told c.args.files.now) (λ all. IsCheckedTo (scene_of all layout) level roots looked old)
           (λ all. new ≡ old ++ found_faults (scene_of all layout) (take (end.looked - looked) c.deref.result.now))
-          (λ all. end.more ≡ false → map f next ≡ map f none ++ flat_map (λ w. roots_below (scene_of all layout) region (f w)) c.deref.result.now) _
+          (λ all. end.more ≡ false → map f next ≡ take (most_roots + 1) (map f none ++ flat_map (λ w. roots_below (scene_of all layout) region (f w)) c.deref.result.now)) _
           (λ all at so more. let s = scene_of all layout in
           let P : List ℕ → Type 0 = λ ws. Counts looked (length ws) end in
           check_goes_on s level ((turn + 1) * layout.subtree_levels) roots none next looked old new end some (starts turn layout.subtree_levels some) up at
           (subst P c.deref.ensures.value c.in_ok-end.ensures.counted) c.if-end.false
           (so ∙ ap (λ ws. old ++ found_faults s (take (end.looked - looked) ws)) c.deref.ensures.value) c.new-next.ensures.items
-          (more c.if-end.false ∙ ap (λ r. map f none ++ flat_map (λ w. roots_below s r (f w)) c.deref.result.now) c.requires.region
-          ∙ ap (λ ws. map f none ++ flat_map (λ w. roots_below s (whole_of s) (f w)) ws) c.deref.ensures.value))
+          (more c.if-end.false ∙ ap (take (most_roots + 1)) (ap (λ r. map f none ++ flat_map (λ w. roots_below s r (f w)) c.deref.result.now) c.requires.region
+          ∙ ap (λ ws. map f none ++ flat_map (λ w. roots_below s (whole_of s) (f w)) ws) c.deref.ensures.value)))
           c.loop-turn.invariant.at
           (told_same (g.S.FileSource.told c.loop-turn.files) (g.S.FileSource.told c.args.files.now) _ c.loop-turn.invariant.same c.in_ok-end.ensures.found)
           (told_same (g.S.FileSource.told c.loop-turn.files) (g.S.FileSource.told c.args.files.now) _ c.loop-turn.invariant.same c.in_ok-end.ensures.roots);
@@ -88,6 +130,8 @@ loop-turn-preserved g c =
       faults_are = c.in_ok-end.ensures.faults;
       few = c.in_ok-end.ensures.counted.few;
       later = omega (arith, c.loop-turn.invariant.later, c.check_roots.ensures.later);
+      sure = stays c.check_roots.result _ _ _ _ _ c.in_ok-end.was c.check_roots.ensures.sure c.loop-turn.invariant.sure;
+      fetched = counted_to c.loop-turn.looked end _ _ _ c.loop-turn.invariant.fetched c.in_ok-end.ensures.fetched c.in_ok-end.ensures.counted.some;
       same = c.check_roots.ensures.same ∙ c.loop-turn.invariant.same;
     }
 

@@ -2,6 +2,7 @@ use Rattle.std.proofs.Common.{◌≡◌, ◌*◌, ◌≤◌}
 use Rattle.std.specs.Prelude.{IfSome}
 use Rattle.implicit_tiling.specs.Checked.{most_roots}
 use Rattle.implicit_tileset.specs.Scene.{scene_of}
+use Rattle.scene_ports.specs.Counts.{more_by}
 use Rattle.tile_word.specs.Roots.{AreRoots}
 use Rattle.tile_walk.specs.Checks.{AreFaults}
 use Rattle.tile_walk.proofs.Checking.{IsCheckedTo}
@@ -15,5 +16,7 @@ invariant-loop-turn g l = record {
   faults_are : AreFaults l.fn.layout.scheme l.found.items;
   few : l.looked ≤ most_roots;
   later : g.S.FileSource.faults l.fn.files ≤ g.S.FileSource.faults l.files;
+  sure : g.S.FileSource.faults l.files ≡ g.S.FileSource.faults l.fn.files;
+  fetched : g.S.FileSource.fetches l.files ≡ more_by l.looked (g.S.FileSource.fetches l.fn.files);
   same : g.S.FileSource.told l.files ≡ g.S.FileSource.told l.fn.files;
 }

@@ -1,5 +1,8 @@
-use Rattle.std.proofs.Common.{◌≡◌, ◌∙◌, ap, arith}
+use Rattle.std.proofs.Common.{◌≡◌, ◌+◌, ◌++◌, ◌∙◌, ℕ, length, ap, arith}
+use Rattle.std.proofs.lemmas.List.{length-take}
 use Rattle.implicit_tiling.specs.Tile.{Tile}
+use Rattle.implicit_tiling.specs.Checked.{most_roots}
+use Rattle.implicit_tiling.specs.Nodes.{child_words}
 use Rattle.implicit_tileset.specs.Scene.{scene_of}
 use Rattle.subtree_outcome.specs.Outcomes.{outcome_seen}
 use Rattle.tile_walk.specs.Checks.{IsOnWalk}
@@ -20,7 +23,7 @@ returns-in_ok-note-in-Bad-clause-roots g c =
     both_told (g.S.FileSource.told c.args.files.now) (λ all. IsOnWalk (scene_of all layout) c.args.region.now c.args.root)
     (λ all. (scene_of all layout).outcome c.root_tile-tile.result ≡ outcome_seen c.in_ok-number.field-0) _
     (λ all on is. no_next (scene_of all layout) c.args.region.now c.args.root c.in-Bad.number c.root_tile-tile.result c.args.next.now.items
-    c.root_tile-tile.ensures.some_levels c.root_tile-tile.ensures.root.is_tile on c.root_tile-tile.ensures.tile (is ∙ ap outcome_seen c.in-Bad.is)) c.requires.on_walk c.in_ok-number.ensures.told
+    c.root_tile-tile.ensures.some_levels c.root_tile-tile.ensures.root.is_tile on c.root_tile-tile.ensures.tile (is ∙ ap outcome_seen c.in-Bad.is) c.requires.kept) c.requires.on_walk c.in_ok-number.ensures.told
 
 pub returns-in_ok-append_roots-in-Good-clause-roots : goal.returns-in_ok-append_roots-in-Good-clause-roots
 returns-in_ok-append_roots-in-Good-clause-roots g c =
@@ -37,4 +40,9 @@ returns-in_ok-append_roots-in-Good-clause-next g c =
     let found = rw c.in-Good.is at c.in_ok-number.ensures.found in
     next_are_roots c.args.layout.now c.in-Good.subtree c.args.region.now _ c.args.next.now.items c.append_roots.new.next.items c.in_ok-append_roots-in-Good.ensures.within_limits
     found.of_layout (omega (arith, found.of_layout.same_levels, c.in_ok-append_roots-in-Good.ensures.within_limits.some_levels))
-    (ap (λ (t : Tile). t.level) found.at_root ∙ c.root_tile-tile.ensures.level) c.requires.next c.in_ok-append_roots-in-Good.ensures.appended
+    (ap (λ (t : Tile). t.level) found.at_root ∙ c.root_tile-tile.ensures.level) c.requires.next (most_roots + 1) c.in_ok-append_roots-in-Good.ensures.appended
+
+pub returns-in_ok-append_roots-in-Good-clause-kept : goal.returns-in_ok-append_roots-in-Good-clause-kept
+returns-in_ok-append_roots-in-Good-clause-kept g c =
+    let all = c.args.next.now.items ++ child_words c.in-Good.subtree c.args.region.now in
+    omega (arith, ap (length {A = ℕ}) c.in_ok-append_roots-in-Good.ensures.appended, length-take (most_roots + 1) all)

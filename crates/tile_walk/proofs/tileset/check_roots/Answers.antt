@@ -1,13 +1,39 @@
-use Rattle.std.proofs.Common.{◌≡◌, ◌+◌, ◌*◌, ◌∙◌, ◌++◌, ◌∷◌, [], map, take, take_all, get_or, ap, sym, arith}
+use Rattle.std.proofs.Common.{◌≡◌, ◌+◌, ◌*◌, ◌∙◌, ◌++◌, ◌∷◌, ◌≤◌, ℕ, List, [], length, map, take, take_all, get_or, refl, ap, sym, arith, append-nil}
+use Rattle.std.proofs.lemmas.List.{length-map}
 use Rattle.std.specs.List.{flat_map, All}
+use Rattle.implicit_tiling.specs.Checked.{most_roots}
+use Rattle.implicit_tiling.specs.Tile.{Tile}
 use Rattle.implicit_tiling.specs.Code.{word_tile}
 use Rattle.implicit_tileset.specs.Scene.{scene_of}
 use Rattle.walk_laws.specs.Children.{roots_below}
 use Rattle.tile_walk.specs.Checks.{IsOnWalk, found_faults}
-use Rattle.subtree_outcome.proofs.Reading.{both_told, of_told, told_same}
-use Rattle.tile_walk.proofs.Roots.{one_next_more}
+use Rattle.subtree_outcome.proofs.Reading.{both_told, of_told, told_same, told_always}
+use Rattle.subtree_outcome.proofs.Counting.{none_more, then_one, stays}
+use Rattle.tile_walk.proofs.Roots.{one_kept_more}
 use Rattle.tile_walk.proofs.Checking.{found_faults-more, roots_at}
 use Rattle.tile_walk.proofs.tileset.check_roots.Goals as goal
+
+-- what is kept of no more roots
+kept_first : (f : ℕ → Tile) (n : ℕ) (next : List ℕ) → length next ≤ n → map f next ≡ take n (map f next ++ [])
+kept_first f n next few = sym (ap (take n) (append-nil (map f next)) ∙ take_all n (map f next) (omega (arith, few, length-map next f)))
+
+pub loop-root-init : goal.loop-root-init
+loop-root-init g c =
+    let layout = c.args.layout.now in
+    let told = g.S.FileSource.told c.args.files.now in
+    record {
+      faults_on = told_always told _ (λ all. sym (append-nil c.args.found.now.items));
+      roots_on = told_always told _ (λ all. kept_first (word_tile layout.scheme) (most_roots + 1) c.args.next.now.items c.requires.kept);
+      kept = c.requires.kept;
+      count_is = omega arith;
+      few = c.requires.few;
+      next_are = c.requires.next;
+      faults_are = c.requires.faults;
+      later = omega arith;
+      sure = refl;
+      fetched = sym (none_more _);
+      same = refl;
+    }
 
 pub check_root-requires-clause-next : goal.check_root-requires-clause-next
 check_root-requires-clause-next g c =
@@ -39,16 +65,19 @@ loop-root-preserved g c =
           c.loop-root.invariant.faults_on
           (told_same (g.S.FileSource.told c.loop-root.files) (g.S.FileSource.told c.args.files.now) _ c.loop-root.invariant.same c.in_ok-check_root.ensures.found);
       roots_on = both_told (g.S.FileSource.told c.args.files.now)
-          (λ all. map f c.loop-root.next.items ≡ map f c.args.next.now.items ++ flat_map (λ w. roots_below (scene_of all layout) region (f w)) (take i roots))
-          (λ all. map f c.check_root.new.next.items ≡ map f c.loop-root.next.items ++ roots_below (scene_of all layout) region (f root)) _
-          (λ all on more. one_next_more f (λ w. roots_below (scene_of all layout) region (f w)) roots c.args.next.now.items c.loop-root.next.items c.check_root.new.next.items i (omega arith) on more)
+          (λ all. map f c.loop-root.next.items ≡ take (most_roots + 1) (map f c.args.next.now.items ++ flat_map (λ w. roots_below (scene_of all layout) region (f w)) (take i roots)))
+          (λ all. map f c.check_root.new.next.items ≡ take (most_roots + 1) (map f c.loop-root.next.items ++ roots_below (scene_of all layout) region (f root))) _
+          (λ all on more. one_kept_more f (λ w. roots_below (scene_of all layout) region (f w)) (most_roots + 1) roots c.args.next.now.items c.loop-root.next.items c.check_root.new.next.items i (omega arith) on more)
           c.loop-root.invariant.roots_on
           (told_same (g.S.FileSource.told c.loop-root.files) (g.S.FileSource.told c.args.files.now) _ c.loop-root.invariant.same c.in_ok-check_root.ensures.roots);
       count_is = omega (arith, c.loop-root.invariant.count_is);
+      kept = c.in_ok-check_root.ensures.kept;
       few = omega (arith, c.loop-root.invariant.few, c.if-count-eq-MOST_ROOTS.false);
       next_are = roots_at layout _ (c.args.turn * layout.subtree_levels + layout.subtree_levels) c.check_root.new.next.items (ap (λ l. l + layout.subtree_levels) is.at_level) c.in_ok-check_root.ensures.next;
       faults_are = c.in_ok-check_root.ensures.faults;
       later = omega (arith, c.loop-root.invariant.later, c.check_root.ensures.later);
+      sure = stays c.check_root.result _ _ _ _ _ c.in_ok-check_root.was c.check_root.ensures.sure c.loop-root.invariant.sure;
+      fetched = then_one c.loop-root.root-index _ _ _ c.loop-root.invariant.fetched c.in_ok-check_root.ensures.fetched;
       same = c.check_root.ensures.same ∙ c.loop-root.invariant.same;
     }
 
@@ -57,6 +86,8 @@ returns-clause-roots g c =
     let layout = c.args.layout.now in
     let f = word_tile layout.scheme in
     of_told (g.S.FileSource.told c.args.files.now)
-    (λ all. map f c.loop-root.next.items ≡ map f c.args.next.now.items ++ flat_map (λ w. roots_below (scene_of all layout) c.args.region.now (f w)) (take c.loop-root.root-index c.args.roots.now)) _
-    (λ all on goes. on ∙ ap (λ ws. map f c.args.next.now.items ++ flat_map (λ w. roots_below (scene_of all layout) c.args.region.now (f w)) ws) (take_all _ _ (omega arith)))
+    (λ all. map f c.loop-root.next.items
+    ≡ take (most_roots + 1) (map f c.args.next.now.items ++ flat_map (λ w. roots_below (scene_of all layout) c.args.region.now (f w)) (take c.loop-root.root-index c.args.roots.now))) _
+    (λ all on goes. on
+    ∙ ap (λ ws. take (most_roots + 1) (map f c.args.next.now.items ++ flat_map (λ w. roots_below (scene_of all layout) c.args.region.now (f w)) ws)) (take_all _ _ (omega arith)))
     c.loop-root.invariant.roots_on
