@@ -46,7 +46,7 @@ def report_cases():
     reported("report_of_no_fault", lines("end|checked|3|0"), 0, "0 faulty of 3 subtree files that were looked at")
     reported("report_of_more_files_than_are_looked_at", lines("fault|1|0|0|0", "end|too-many|65536|1"), 1,
              "1 faulty of 65536 subtree files that were looked at; there are more, which weren't looked at")
-    for name, text in (("nothing", ""), ("a_cut_check", lines("fault|1|0|0|0")), ("an_answer", lines("0|0|0", "end|complete|1"))):
+    for name, text in (("nothing", ""), ("a_word", "end\n"), ("a_cut_check", lines("fault|1|0|0|0")), ("an_answer", lines("0|0|0", "end|complete|1"))):
         reported(f"report_of_{name}", text, 4, "report: this isn't the whole text of a check")
 
 
