@@ -6,9 +6,9 @@ of them name files and targets of `make` that are there.
 Checks too that docs/definitions.md is whole. A page of definitions is on it, or says in its first line that it is for proofs and
 inner functions. No page on it, and no clause of a function that docs/proofs.md names, cites a page of the latter kind.
 
-Checks too that the manual page is well formed, as far as a tool for that is there, and that it has each command; that
-`examples/report` has words for each fault of a subtree file; and that each block of commands in `README.md` and in the examples
-prints what it shows, where the program is built of this very tree and `--texts` isn't given.
+Checks too that links lead somewhere; that the manual page is well formed, as far as a tool for that is there, and has each
+command; that `examples/report` has words for each fault of a subtree file; and that each block of commands in `README.md` and in
+the examples prints what it shows, where the program is built of this very tree and `--texts` isn't given.
 
 Usage: documents.py [--texts]"""
 import glob
@@ -178,6 +178,16 @@ def missing_files():
                     yield f"{document}: no file {path}"
 
 
+def missing_links():
+    """Links and pictures of a document to no file, and links to no heading of it."""
+    for document, text in documents():
+        headings = {re.sub(r"[^\w -]", "", line.lstrip("# ").lower()).replace(" ", "-") for line in text.splitlines() if line.startswith("#")}
+        for link in re.findall(r'\]\(([^)\s]+)\)|src="([^"]+)"', text):
+            path, _, heading = (link[0] or link[1]).partition("#")
+            if heading and heading not in headings or not os.path.exists(os.path.join(TOP, os.path.dirname(document), path)):
+                yield f"{document}: a link to nothing, {path or heading}"
+
+
 def unknown_targets():
     targets = set(re.findall(r"(?m)^([\w-]+):", read(os.path.join(TOP, "Makefile"))))
     for document, text in documents():
@@ -224,8 +234,8 @@ def faults_of_blocks(texts_alone):
 if sys.argv[1:] not in ([], ["--texts"]):
     sys.exit(__doc__)
 problems = [
-    *missing_definitions(), *incomplete_definitions(), *unknown_names(), *unknown_crates(), *missing_files(), *unknown_targets(),
-    *faults_of_the_page(), *faults_without_words(), *faults_of_blocks(sys.argv[1:] == ["--texts"])
+    *missing_definitions(), *incomplete_definitions(), *unknown_names(), *unknown_crates(), *missing_files(), *missing_links(),
+    *unknown_targets(), *faults_of_the_page(), *faults_without_words(), *faults_of_blocks(sys.argv[1:] == ["--texts"])
 ]
 for problem in problems:
     print(f"FAILED {problem}")

@@ -79,7 +79,7 @@ def crates_of_program():
 def left():
     crates = crates_of_program()
     proved = {name for name in crates if os.path.isdir(os.path.join(TOP, "crates", name, "out", "rlib", f"{name}.rlib"))}
-    print(f"Of its {len(crates)} crates {len(proved)} were proved here before and {len(crates - proved)} are left; what changed since is "
+    print(f"Of view's {len(crates)} crates {len(proved)} were proved here before and {len(crates - proved)} are left; what changed since is "
           f"proved again. All of them took {TIMED}.")
     return 0
 
