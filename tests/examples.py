@@ -2,6 +2,7 @@
 scripts `report` and `map` make of texts."""
 import os
 import re
+import shutil
 import subprocess
 import tempfile
 
@@ -20,13 +21,46 @@ def as_written(name, document, folder):
     report(name, list(blocks.problems(document, folder)))
 
 
+def files_below(folder):
+    return sorted(os.path.relpath(os.path.join(at, name), folder) for at, _, names in os.walk(folder) for name in names)
+
+
+@case
+def installed(name, folder):
+    """`make install` puts the program and its page, and nothing else, and `make uninstall` takes them away."""
+    below = os.path.join(folder, "installed")
+    problems = []
+    for target, wanted in (("install", ["usr/bin/view", "usr/share/man/man1/view.1"]), ("uninstall", [])):
+        done = subprocess.run(["make", target, "PREFIX=/usr", f"DESTDIR={below}"], cwd=folder, capture_output=True, text=True, timeout=120)
+        if done.returncode or files_below(below) != wanted:
+            problems.append(f"{target}: status {done.returncode}, files {files_below(below)}; {done.stderr[-200:]!r}")
+    report(name, problems)
+
+
+@case
+def without_toolchain(name, folder):
+    """`make demo` on a machine without `rt` says what it would do and, in one sentence, what is missing."""
+    tools = os.path.join(folder, "tools")
+    os.makedirs(tools, exist_ok=True)
+    for tool in ("bash", "sh", "make", "dirname"):
+        os.symlink(shutil.which(tool), os.path.join(tools, tool))
+    done = subprocess.run(["make", "demo"], cwd=folder, capture_output=True, text=True, timeout=120, env={"PATH": tools})
+    wanted = "view is proved and built by the Rattle toolchain, and its command rt isn't on the path."
+    report(name, [] if done.returncode and done.stdout.count("\n") == 1 and done.stderr.splitlines()[0] == wanted else [repr(done)])
+
+
 def document_cases():
     named = {"commands_of_" + re.sub(r"\W", "_", document): document for document in blocks.documents()}
-    if any(is_chosen(name) for name in named):
-        with tempfile.TemporaryDirectory(prefix="view-documents-") as folder:
-            blocks.clean_copy(PROGRAM, folder)
-            for name, document in named.items():
-                as_written(name, document, folder)
+    others = {"installed_and_uninstalled": installed, "demo_without_the_toolchain": without_toolchain}
+    if not any(map(is_chosen, [*named, *others])):
+        return
+    with tempfile.TemporaryDirectory(prefix="view-documents-") as folder:
+        blocks.clean_copy(PROGRAM, folder)
+        for name, document in named.items():
+            as_written(name, document, folder)
+        if shutil.which("rt"):
+            for name, check in others.items():
+                check(name, folder)
 
 
 def output_of(script, words, text, folder=None):
