@@ -1,8 +1,8 @@
 """The commands that the documents show with what they print, and their running in a clean copy of the repository.
 
-They stand in the blocks that are fenced as `console`: a line that begins with `$ ` is a command, and the lines below it are what it
-prints, standard error with it; a line `...` stands for any lines. The blocks of a document are run in one shell that has `view` on
-its path, and each begins in the document's folder."""
+They stand in the blocks that are fenced as `console`: a line that begins with `$ ` is a command, and the lines below it are what
+it prints, standard error with it; a line `...` stands for any lines. The blocks of a document are run in one shell that has
+`view` on its path, and each begins in the document's folder."""
 import glob
 import os
 import re
@@ -76,7 +76,8 @@ def problems(document, folder):
                 script += [command, f"echo '{END}'"]
                 wanted.append((command, lines))
     path = os.path.join(folder, "crates", "view", "out") + ":" + os.environ["PATH"]
-    done = subprocess.run(["bash", "-c", "\n".join(script)], env={**os.environ, "PATH": path, "HOME": home, "LC_ALL": "C.UTF-8"},
+    environment = {**os.environ, "PATH": path, "HOME": home, "LC_ALL": "C.UTF-8"}
+    done = subprocess.run(["bash", "-c", "\n".join(script)], env=environment,
                           stdin=subprocess.DEVNULL, stdout=subprocess.PIPE, timeout=300)
     printed = done.stdout.decode(errors="replace").split(END + "\n")
     for (command, lines), text in zip(wanted, printed):

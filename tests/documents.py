@@ -199,9 +199,10 @@ def unknown_targets():
 def faults_of_the_page():
     """What the first of these tools that is there says of the manual page."""
     page = os.path.join(TOP, "docs", "view.1")
+    environment = {**os.environ, "MANPAGER": "cat", "LC_ALL": "C.UTF-8"}
     for tool in (["mandoc", "-T", "lint"], ["man", "--warnings", "-l"], ["groff", "-mandoc", "-ww", "-z"]):
         if shutil.which(tool[0]):
-            done = subprocess.run([*tool, page], capture_output=True, text=True, env={**os.environ, "MANPAGER": "cat", "LC_ALL": "C.UTF-8"})
+            done = subprocess.run([*tool, page], capture_output=True, text=True, env=environment)
             said = (done.stdout if tool[0] == "mandoc" else "") + done.stderr
             yield from (f"view.1: {line}" for line in said.splitlines())
             break
@@ -215,14 +216,21 @@ def faults_without_words():
     """Faults of a subtree file that examples/report has no words for, and such that are no faults."""
     table = read(os.path.join(TOP, "docs", "faults.md")).partition("## Subtree files")[2]
     numbers = set(re.findall(r"^\| (\d+) \|", table, re.M))
-    for number in sorted(numbers ^ set(re.findall(r"^    (\d+): \(", read(os.path.join(TOP, "examples", "report", "report")), re.M)), key=int):
+    worded = set(re.findall(r"^    (\d+): \(", read(os.path.join(TOP, "examples", "report", "report")), re.M))
+    for number in sorted(numbers ^ worded, key=int):
         yield f"examples/report: fault {number} is {'without words' if number in numbers else 'no fault'}"
+
+
+def is_built():
+    """Whether the program of this very tree is there."""
+    words = [sys.executable, os.path.join(TOP, "tests", "program.py"), "is-current"]
+    return shutil.which("rt") is not None and subprocess.run(words).returncode == 0
 
 
 def faults_of_blocks(texts_alone):
     count = sum(len(commands) for document in blocks.documents() for commands in blocks.blocks_of(document))
     program = os.path.join(TOP, "crates", "view", "out", "view")
-    if texts_alone or not shutil.which("rt") or subprocess.run([sys.executable, os.path.join(TOP, "tests", "program.py"), "is-current"]).returncode:
+    if texts_alone or not is_built():
         print(f"documents: {count} commands were not run" + ("" if texts_alone else ", since the program isn't built of this tree"))
         return
     with tempfile.TemporaryDirectory(prefix="view-documents-") as folder:

@@ -1,5 +1,5 @@
-"""Cases of the documents and the examples: the commands that they show, as written, in a clean copy of the repository; and what the
-scripts `report` and `map` make of texts."""
+"""Cases of the documents and the examples: the commands that they show, as written, in a clean copy of the repository; what is
+installed; and what the scripts `report` and `map` make of texts."""
 import os
 import re
 import shutil
@@ -12,8 +12,8 @@ from tilesets import all_ones, make
 
 EXAMPLES = os.path.join(blocks.TOP, "examples")
 MAP, REPORT = os.path.join(EXAMPLES, "map", "map"), os.path.join(EXAMPLES, "report", "report")
-SQUARE = re.compile(r"M(\d+) (\d+)h1v1h-1z")
-LEVEL = re.compile(r'<path transform="translate\((\S+) (\S+)\) scale\((\S+)\)" d="([^"]*)"/>')
+SQUARE = re.compile(r"M(\d+) (\d+)h\d+v\d+h-\d+z")
+LEVEL = re.compile(r'<path [^>]*transform="translate\((\S+) (\S+)\) scale\((\S+)\)" d="([^"]*)"/>')
 
 
 @case
@@ -31,7 +31,8 @@ def installed(name, folder):
     below = os.path.join(folder, "installed")
     problems = []
     for target, wanted in (("install", ["usr/bin/view", "usr/share/man/man1/view.1"]), ("uninstall", [])):
-        done = subprocess.run(["make", target, "PREFIX=/usr", f"DESTDIR={below}"], cwd=folder, capture_output=True, text=True, timeout=120)
+        words = ["make", target, "PREFIX=/usr", f"DESTDIR={below}"]
+        done = subprocess.run(words, cwd=folder, capture_output=True, text=True, timeout=120)
         if done.returncode or files_below(below) != wanted:
             problems.append(f"{target}: status {done.returncode}, files {files_below(below)}; {done.stderr[-200:]!r}")
     report(name, problems)
@@ -46,7 +47,8 @@ def without_toolchain(name, folder):
         os.symlink(shutil.which(tool), os.path.join(tools, tool))
     done = subprocess.run(["make", "demo"], cwd=folder, capture_output=True, text=True, timeout=120, env={"PATH": tools})
     wanted = "view is proved and built by the Rattle toolchain, and its command rt isn't on the path."
-    report(name, [] if done.returncode and done.stdout.count("\n") == 1 and done.stderr.splitlines()[0] == wanted else [repr(done)])
+    said = done.returncode != 0 and done.stdout.count("\n") == 1 and done.stderr.splitlines()[0] == wanted
+    report(name, [] if said else [repr(done)])
 
 
 def document_cases():
@@ -80,12 +82,13 @@ def report_cases():
     reported("report_of_no_fault", lines("end|checked|3|0"), 0, "0 faulty of 3 subtree files that were looked at")
     reported("report_of_more_files_than_are_looked_at", lines("fault|1|0|0|0", "end|too-many|65536|1"), 1,
              "1 faulty of 65536 subtree files that were looked at; there are more, which weren't looked at")
-    for name, text in (("nothing", ""), ("a_word", "end\n"), ("a_cut_check", lines("fault|1|0|0|0")), ("an_answer", lines("0|0|0", "end|complete|1"))):
+    for name, text in (("nothing", ""), ("a_word", "end\n"), ("a_cut_check", lines("fault|1|0|0|0")),
+                       ("an_answer", lines("0|0|0", "end|complete|1"))):
         reported(f"report_of_{name}", text, 4, "report: this isn't the whole text of a check")
 
 
 def drawn(text):
-    """The squares of a picture, level by level: each as its left side, its bottom and its width in units of the picture, rounded."""
+    """The squares of a picture, level by level: each as its left side, its bottom and its width, rounded."""
     levels = []
     for x, y, scale, marks in LEVEL.findall(text):
         x, y, scale = float(x), float(y), float(scale)
@@ -99,7 +102,7 @@ def mapped(name, text, words, squares, marks=0):
     """The picture of an answer has so many squares at each level, and so many crosses."""
     status, picture, said = output_of(MAP, words, text)
     found = [len(level) for level in drawn(picture)]
-    problems = [] if status == 0 and found == squares else [f"status {status}, squares {found[:30]}, not {squares[:30]}; {said!r}"]
+    problems = [] if status == 0 and found == squares else [f"status {status}, squares {found}, not {squares}; {said!r}"]
     crosses = picture.count('class="c"')
     if crosses != marks:
         problems.append(f"{crosses} crosses, not {marks}")
@@ -111,8 +114,9 @@ def at_their_places(name, scene, level):
     """The squares of a whole quadtree are the tiles, where they are: 720 units wide, with y upward."""
     box = (0, 0), (2 ** level - 1,) * 2
     picture = output_of(MAP, [], make.answer(scene, level, *box))[1]
-    wanted = [{(round(720 * x / 2 ** l, 2), round(720 - 720 * y / 2 ** l, 2), round(720 / 2 ** l, 2)) for k, x, y in scene["tiles"] if k == l}
-              for l in range(level + 1)]
+    sides = [720 / 2 ** l for l in range(level + 1)]
+    wanted = [{(round(x * side, 2), round(720 - y * side, 2), round(side, 2)) for k, x, y in scene["tiles"] if k == l}
+              for l, side in enumerate(sides)]
     report(name, [] if drawn(picture) == wanted else ["the squares aren't the tiles"])
 
 
