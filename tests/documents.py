@@ -221,6 +221,14 @@ def faults_without_words():
         yield f"examples/report: fault {number} is {'without words' if number in numbers else 'no fault'}"
 
 
+def unlisted_examples():
+    front = read(os.path.join(TOP, "README.md"))
+    for folder in sorted(glob.glob(os.path.join(TOP, "examples", "*", ""))):
+        name = os.path.relpath(folder, TOP)
+        if os.path.basename(name) != "__pycache__" and (f"`{name}`" not in front or not os.path.exists(os.path.join(folder, "README.md"))):
+            yield f"{name}: it has no README.md, or the front page hasn't it"
+
+
 def is_built():
     """Whether the program of this very tree is there."""
     words = [sys.executable, os.path.join(TOP, "tests", "program.py"), "is-current"]
@@ -237,13 +245,15 @@ def faults_of_blocks(texts_alone):
         blocks.clean_copy(program, folder)
         for document in blocks.documents():
             yield from blocks.problems(document, folder)
+    print(f"documents: {count} commands were run")
 
 
 if sys.argv[1:] not in ([], ["--texts"]):
     sys.exit(__doc__)
 problems = [
     *missing_definitions(), *incomplete_definitions(), *unknown_names(), *unknown_crates(), *missing_files(), *missing_links(),
-    *unknown_targets(), *faults_of_the_page(), *faults_without_words(), *faults_of_blocks(sys.argv[1:] == ["--texts"])
+    *unknown_targets(), *unlisted_examples(), *faults_of_the_page(), *faults_without_words(),
+    *faults_of_blocks(sys.argv[1:] == ["--texts"])
 ]
 for problem in problems:
     print(f"FAILED {problem}")
