@@ -1,10 +1,13 @@
 # `view` and its checks. CONTRIBUTING.md says when to use which; CRATE, ONLY and CASE are given as in `make check CRATE=morton`.
 VIEW = crates/view/out/view
+PREFIX = /usr/local
 
-.PHONY: demo test build check unit edits texts outside refused-memory times
+.PHONY: demo test build install uninstall check unit edits texts outside refused-memory times
 
-# Builds `view` and runs it on the example.
-demo: build
+# Builds `view` and runs it on the example. It says first what it does, what is left to prove, and how long the whole took.
+demo:
+	@echo "This proves and builds view, and asks it for the five tiles of examples/one_subtree."
+	@bash tests/build
 	cd examples/one_subtree && ../../$(VIEW) tiles 1 0,0 1,1
 
 # The gate, and the checks of the built program.
@@ -14,6 +17,15 @@ test:
 # Building means proving: what was proved before is kept in crates/*/out, and rt says how far it is as it goes.
 build:
 	bash tests/build
+
+# Installs the program and its manual page below PREFIX, and nothing else: make install PREFIX=/opt/view
+install: build
+	install -D -m 755 $(VIEW) $(DESTDIR)$(PREFIX)/bin/view
+	install -D -m 644 docs/view.1 $(DESTDIR)$(PREFIX)/share/man/man1/view.1
+
+# Takes both away again.
+uninstall:
+	rm -f $(DESTDIR)$(PREFIX)/bin/view $(DESTDIR)$(PREFIX)/share/man/man1/view.1
 
 # Proves one crate, or of it one function: make check CRATE=morton ONLY=index2
 check:

@@ -1,8 +1,10 @@
 #!/usr/bin/env python3
-"""Makes the tilesets examples/terrain and examples/points anew: small, and of the shape of real ones.
+"""Makes the tilesets examples/terrain, points, inner_buffer and faulty anew: small, and of the shape of real ones.
 
 A tile is there where a sample of the scene is in it. The files are written by the plain rules of OGC 22-025r4: bit by bit,
-from the set of tiles. tests/black_box.py reads that set from here and compares it with what the program answers."""
+from the set of tiles. tests/black_box.py reads that set from here and compares it with what the program answers. The files of
+`faulty` are such files, broken on purpose."""
+import itertools
 import json
 import math
 import os
@@ -43,6 +45,13 @@ def points():
             "contents": ["points/{level}/{x}/{y}/{z}.glb"], "has": lambda tile, content: True}
 
 
+def inner_buffer():
+    """A quadtree of three levels in one subtree, with a content on each tile but the root: two bitstreams in one buffer."""
+    leaves = {(0, 0), (1, 1), (2, 1), (3, 2), (3, 3)}
+    return {"name": "inner_buffer", "scheme": "QUADTREE", "axes": 2, "subtree": 3, "levels": 3, "tiles": with_ancestors(2, leaves),
+            "contents": ["c/{level}/{x}/{y}.glb"], "has": lambda tile, content: tile[0] > 0}
+
+
 def interleaved(coordinates):
     axes = len(coordinates)
     return sum((c >> j & 1) << (axes * j + a) for a, c in enumerate(coordinates) for j in range(32))
@@ -73,25 +82,47 @@ def availability(bits, views, binary):
     return {"bitstream": len(views) - 1, "availableCount": sum(bits)}
 
 
-def subtree_file(scene, root):
-    axes, depth = scene["axes"], scene["subtree"]
-
-    def tile(local, index):
-        base = interleaved(root[1:]) << axes * local
-        return (root[0] + local,) + separated(axes, base + index)
-    nodes = [tile(local, index) for local in range(depth) for index in range(2 ** (axes * local))]
+def file_of_bits(tiles, contents, children):
+    """The subtree file of these bits: the header, the record padded by spaces, and the buffer padded by zeros."""
     views, binary = [], bytearray()
-    record = {"tileAvailability": availability([t in scene["tiles"] for t in nodes], views, binary),
-              "contentAvailability": [availability([t in scene["tiles"] and scene["has"](t, c) for t in nodes], views, binary)
-                                      for c in range(len(scene["contents"]))],
-              "childSubtreeAvailability": availability([tile(depth, index) in scene["tiles"] for index in range(2 ** (axes * depth))],
-                                                       views, binary)}
+    record = {"tileAvailability": availability(tiles, views, binary),
+              "contentAvailability": [availability(content, views, binary) for content in contents],
+              "childSubtreeAvailability": availability(children, views, binary)}
     if views:
         binary += b"\0" * (-len(binary) % 8)
         record = {"buffers": [{"byteLength": len(binary)}], "bufferViews": views, **record}
     text = json.dumps(record).encode()
     text += b" " * (-len(text) % 8)
     return b"subt" + struct.pack("<IQQ", 1, len(text), len(binary)) + text + bytes(binary)
+
+
+def subtree_file(scene, root):
+    axes, depth, there = scene["axes"], scene["subtree"], scene["tiles"]
+
+    def tile(local, index):
+        base = interleaved(root[1:]) << axes * local
+        return (root[0] + local,) + separated(axes, base + index)
+    nodes = [tile(local, index) for local in range(depth) for index in range(2 ** (axes * local))]
+    return file_of_bits([t in there for t in nodes],
+                        [[t in there and scene["has"](t, c) for t in nodes] for c in range(len(scene["contents"]))],
+                        [tile(depth, index) in there for index in range(2 ** (axes * depth))])
+
+
+def faulty():
+    """A quadtree of four levels in subtrees of two, whose root names seven child subtrees: six of their files are broken."""
+    leaves = {(x, y) for x, y in itertools.product(range(8), range(4)) if y < 2 or x < 6}
+    return {"name": "faulty", "scheme": "QUADTREE", "axes": 2, "subtree": 2, "levels": 4, "tiles": with_ancestors(3, leaves),
+            "contents": ["c/{level}/{x}/{y}.glb"], "has": lambda tile, content: True}
+
+
+def broken_files(scene):
+    """The files of `faulty` that aren't as they should be, by their roots; None is no file."""
+    whole, no_children = subtree_file(scene, (2, 0, 0)), [0] * 16
+    two_tiles = file_of_bits([1, 0, 0, 0, 1], [[0] * 5], no_children)
+    return {(2, 1, 0): None, (2, 0, 1): whole[:40], (2, 1, 1): b"glTF" + whole[4:],
+            (2, 2, 0): two_tiles.replace(b'"availableCount": 2', b'"availableCount": 3'),
+            (2, 3, 0): file_of_bits([0, 1, 0, 0, 0], [[0] * 5], no_children),
+            (2, 2, 1): file_of_bits([1, 1, 0, 0, 0], [[1, 1, 1, 0, 0]], no_children)}
 
 
 def write(scene):
@@ -107,12 +138,14 @@ def write(scene):
     with open(os.path.join(folder, "tileset.json"), "w") as file:
         json.dump({"asset": {"version": "1.1"}, "geometricError": 500, "root": root}, file, indent=1)
         file.write("\n")
+    broken = broken_files(scene) if scene["name"] == "faulty" else {}
     for tile in scene["tiles"]:
-        if tile[0] % scene["subtree"] == 0:
+        data = broken.get(tile, subtree_file(scene, tile)) if tile[0] % scene["subtree"] == 0 else None
+        if data is not None:
             path = os.path.join(folder, filled(template, tile))
             os.makedirs(os.path.dirname(path), exist_ok=True)
             with open(path, "wb") as file:
-                file.write(subtree_file(scene, tile))
+                file.write(data)
 
 
 def answer(scene, level, low, high):
@@ -125,8 +158,8 @@ def answer(scene, level, low, high):
     return "".join(row + "\n" for row in rows + [f"end\tcomplete\t{len(there)}"])
 
 
-SCENES = [terrain(), points()]
+SCENES = [terrain(), points(), inner_buffer()]
 
 if __name__ == "__main__":
-    for scene in SCENES:
+    for scene in [*SCENES, faulty()]:
         write(scene)

@@ -9,6 +9,7 @@ if not 2 <= len(sys.argv) <= 3:
     sys.exit(__doc__)
 
 import edges
+import examples
 import extremes
 import harness
 import making
@@ -17,6 +18,7 @@ import walking
 walking.cases()
 making.cases()
 edges.cases()
+examples.cases()
 extremes.cases()
 passed, failed = harness.counts["passed"], harness.counts["failed"]
 print(f"black box: {passed} passed, {failed} failed" + (f", of the cases with {harness.WORD!r}" if harness.WORD else ""))

@@ -6,12 +6,21 @@ of them name files and targets of `make` that are there.
 Checks too that docs/definitions.md is whole. A page of definitions is on it, or says in its first line that it is for proofs and
 inner functions. No page on it, and no clause of a function that docs/proofs.md names, cites a page of the latter kind.
 
-Usage: documents.py"""
+Checks too that links lead somewhere; that the manual page is well formed, as far as a tool for that is there, and has each
+command; that `examples/report` has words for each fault of a subtree file; and that each block of commands in `README.md` and in
+the examples prints what it shows, where the program is built of this very tree and `--texts` isn't given.
+
+Usage: documents.py [--texts]"""
 import glob
 import itertools
 import os
 import re
+import shutil
+import subprocess
 import sys
+import tempfile
+
+import blocks
 
 TOP = os.path.dirname(os.path.dirname(os.path.abspath(__file__)))
 ITEM = r"\b(?:fn|mod|struct|enum|trait|type|ensures|requires)\s+(\w+)|\b(?:ghost|const)\s+(\w+)"
@@ -169,6 +178,16 @@ def missing_files():
                     yield f"{document}: no file {path}"
 
 
+def missing_links():
+    """Links and pictures of a document to no file, and links to no heading of it."""
+    for document, text in documents():
+        headings = {re.sub(r"[^\w -]", "", line.lstrip("# ").lower()).replace(" ", "-") for line in text.splitlines() if line.startswith("#")}
+        for link in re.findall(r'\]\(([^)\s]+)\)|src="([^"]+)"', text):
+            path, _, heading = (link[0] or link[1]).partition("#")
+            if heading and heading not in headings or not os.path.exists(os.path.join(TOP, os.path.dirname(document), path)):
+                yield f"{document}: a link to nothing, {path or heading}"
+
+
 def unknown_targets():
     targets = set(re.findall(r"(?m)^([\w-]+):", read(os.path.join(TOP, "Makefile"))))
     for document, text in documents():
@@ -177,8 +196,64 @@ def unknown_targets():
                 yield f"{document}: make {name} is no target"
 
 
+def faults_of_the_page():
+    """What the first of these tools that is there says of the manual page."""
+    page = os.path.join(TOP, "docs", "view.1")
+    environment = {**os.environ, "MANPAGER": "cat", "LC_ALL": "C.UTF-8"}
+    for tool in (["mandoc", "-T", "lint"], ["man", "--warnings", "-l"], ["groff", "-mandoc", "-ww", "-z"]):
+        if shutil.which(tool[0]):
+            done = subprocess.run([*tool, page], capture_output=True, text=True, env=environment)
+            said = (done.stdout if tool[0] == "mandoc" else "") + done.stderr
+            yield from (f"view.1: {line}" for line in said.splitlines())
+            break
+    text = read(page)
+    for name in re.findall(r"^\| `view (\w+)", read(os.path.join(TOP, "README.md")), re.M):
+        if f".Cm {name}" not in text:
+            yield f"view.1: the command {name} isn't in it"
+
+
+def faults_without_words():
+    """Faults of a subtree file that examples/report has no words for, and such that are no faults."""
+    table = read(os.path.join(TOP, "docs", "faults.md")).partition("## Subtree files")[2]
+    numbers = set(re.findall(r"^\| (\d+) \|", table, re.M))
+    worded = set(re.findall(r"^    (\d+): \(", read(os.path.join(TOP, "examples", "report", "report")), re.M))
+    for number in sorted(numbers ^ worded, key=int):
+        yield f"examples/report: fault {number} is {'without words' if number in numbers else 'no fault'}"
+
+
+def unlisted_examples():
+    front = read(os.path.join(TOP, "README.md"))
+    for folder in sorted(glob.glob(os.path.join(TOP, "examples", "*", ""))):
+        name = os.path.relpath(folder, TOP)
+        if os.path.basename(name) != "__pycache__" and (f"`{name}`" not in front or not os.path.exists(os.path.join(folder, "README.md"))):
+            yield f"{name}: it has no README.md, or the front page hasn't it"
+
+
+def is_built():
+    """Whether the program of this very tree is there."""
+    words = [sys.executable, os.path.join(TOP, "tests", "program.py"), "is-current"]
+    return shutil.which("rt") is not None and subprocess.run(words).returncode == 0
+
+
+def faults_of_blocks(texts_alone):
+    count = sum(len(commands) for document in blocks.documents() for commands in blocks.blocks_of(document))
+    program = os.path.join(TOP, "crates", "view", "out", "view")
+    if texts_alone or not is_built():
+        print(f"documents: {count} commands were not run" + ("" if texts_alone else ", since the program isn't built of this tree"))
+        return
+    with tempfile.TemporaryDirectory(prefix="view-documents-") as folder:
+        blocks.clean_copy(program, folder)
+        for document in blocks.documents():
+            yield from blocks.problems(document, folder)
+    print(f"documents: {count} commands were run")
+
+
+if sys.argv[1:] not in ([], ["--texts"]):
+    sys.exit(__doc__)
 problems = [
-    *missing_definitions(), *incomplete_definitions(), *unknown_names(), *unknown_crates(), *missing_files(), *unknown_targets()
+    *missing_definitions(), *incomplete_definitions(), *unknown_names(), *unknown_crates(), *missing_files(), *missing_links(),
+    *unknown_targets(), *unlisted_examples(), *faults_of_the_page(), *faults_without_words(),
+    *faults_of_blocks(sys.argv[1:] == ["--texts"])
 ]
 for problem in problems:
     print(f"FAILED {problem}")
