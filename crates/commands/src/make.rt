@@ -38,6 +38,8 @@ pub(crate) fn run<K: FileKeeper, O: Outlet>(
     ensures first { PutsFirst recipe.now (K.kept keep.old) (K.kept keep.new) (O.given out.old) (O.given out.new) }
     ensures write_fault { result ≡ Status.WriteFault → Rose (O.faults out.old) (O.faults out.new)
         ⊎ Rose (K.faults keep.old) (K.faults keep.new) }
+    ensures all_put { result ≡ Status.WriteFault → Rose (K.faults keep.old) (K.faults keep.new)
+        ⊎ MakeLeaves recipe.now (K.kept keep.old) (K.kept keep.new) Status.Done }
     ensures aside { O.inlet_aside out.new ≡ O.inlet_aside out.old }
     ensures later_keep { K.faults keep.old ≤ K.faults keep.new }
     ensures later_out { O.faults out.old ≤ O.faults out.new }

@@ -78,6 +78,8 @@ pub fn plain<S: FileSource, K: FileKeeper, I: Inlet, O: Outlet>(
     ensures leaves { (promised (asked (map string_bytes words.now))).leaves (K.kept keep.old) (K.kept keep.new) result }
     ensures first { (promised (asked (map string_bytes words.now))).first (K.kept keep.old) (K.kept keep.new)
         (O.given out.old) (O.given out.new) }
+    ensures all_put { result ≡ Status.WriteFault → Rose (K.faults keep.old) (K.faults keep.new)
+        ⊎ (promised (asked (map string_bytes words.now))).leaves (K.kept keep.old) (K.kept keep.new) Status.Done }
 
     // What isn't used stays as it is: the source, the keeper, the inlet, and what the outlet is beside one.
     ensures unread { (promised (asked (map string_bytes words.now))).reads ≡ false → files.new ≡ files.old }
@@ -117,6 +119,8 @@ fn run<S: FileSource, K: FileKeeper, O: Outlet>(
     ensures leaves { (promised (Some (asked_seen asked.now))).leaves (K.kept keep.old) (K.kept keep.new) result }
     ensures first { (promised (Some (asked_seen asked.now))).first (K.kept keep.old) (K.kept keep.new)
         (O.given out.old) (O.given out.new) }
+    ensures all_put { result ≡ Status.WriteFault → Rose (K.faults keep.old) (K.faults keep.new)
+        ⊎ (promised (Some (asked_seen asked.now))).leaves (K.kept keep.old) (K.kept keep.new) Status.Done }
     ensures unread { (promised (Some (asked_seen asked.now))).reads ≡ false → files.new ≡ files.old }
     ensures kept { (promised (Some (asked_seen asked.now))).puts ≡ false → keep.new ≡ keep.old }
     ensures aside { O.inlet_aside out.new ≡ O.inlet_aside out.old }

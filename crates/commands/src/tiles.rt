@@ -139,15 +139,15 @@ fn answer_plan<S: FileSource, O: Outlet>(
         Err(WalkStop::Memory) => return Status::Memory,
     };
     match write_answer(alloc, layout, &words, end, out) {
-        Ok(()) => status_of(end),
+        Ok(()) => status_of(&end),
         Err(GiveFault::WriteFault) => Status::WriteFault,
         Err(GiveFault::Memory) => Status::Memory,
     }
 }
 
 // The status of an answer that was given whole.
-fn status_of(end: WalkEnd) -> Status
-    ensures status { result ≡ walk_status end }
+fn status_of(end: &WalkEnd) -> Status
+    ensures status { result ≡ walk_status end.now }
     ensures ends { IsOneOf tiles_ends result }
     ensures late { ¬ (IsBeforeWriting result) }
     ensures well { (result ≢ Status.ReadFault) × (result ≢ Status.WriteFault) }

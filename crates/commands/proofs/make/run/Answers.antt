@@ -1,3 +1,4 @@
+use Rattle.std.proofs.Common.{inr}
 use Rattle.commands.proofs.Making.{left_whole, left_in_memory, left_made, first_made, made_front}
 use Rattle.commands.proofs.make.run.Goals as goal
 
@@ -24,3 +25,7 @@ returns-in-Err-WriteFault-clause-first g c = first_made _ _ c.args.recipe.now _ 
 
 pub returns-in-Err-Memory-write_made-clause-first : goal.returns-in-Err-Memory-write_made-clause-first
 returns-in-Err-Memory-write_made-clause-first g c = first_made _ _ c.args.recipe.now _ c.in-Ok.ensures.kept c.in-Ok.ensures.layout c.in-Ok.ensures.holds
+
+-- where the outlet alone failed, all files were put
+pub returns-in-Err-WriteFault-clause-all_put : goal.returns-in-Err-WriteFault-clause-all_put
+returns-in-Err-WriteFault-clause-all_put g c = λ failed. inr (left_made _ _ c.args.recipe.now c.in-Ok.ensures.kept c.in-Ok.ensures.layout c.in-Ok.ensures.holds)
