@@ -11,6 +11,7 @@ use Rattle.bitstream.specs.Bits.{bits_of_bytes}
 use Rattle.implicit_tiling.specs.Bits.{bit_at, bit_of_bytes, digit_of_bytes}
 use Rattle.bitstream.specs.Bytes.{number_of_bits, bytes_filled, byte_of_bits, bytes_of_bits}
 use Rattle.bitstream.proofs.Lists.{length-bits_of_bytes, bit_at-bits_of_bytes, bit_at-replicate}
+use Rattle.bitstream.proofs.Ones.{digit_again}
 use Rattle.bitstream.proofs.Search.{bit-take}
 
 -- ---- the number of some bits
@@ -106,11 +107,6 @@ pub record HaveBits (bytes : List ℕ) (bits : List Bool) (count : ℕ) : Type 0
   pub filled : length bytes ≡ bytes_filled count
   pub fit : (k : ℕ) → get_or bytes k 0 < 256
   pub same : (i : ℕ) → i < count → bit_of_bytes bytes i ≡ bit_at bits i
-
-digit_again : (d : ℕ) → d < 2 → cond (eqb d 1) 1 0 ≡ d
-digit_again zero h = refl
-digit_again (suc zero) h = refl
-digit_again (suc (suc d)) h = absurd (omega arith)
 
 -- byte k, of which r bits are used
 byte_same : (bytes : List ℕ) (bits : List Bool) (count k r : ℕ) → HaveBits bytes bits count → r ≤ 8 → 8 * k + r ≤ count → (r ≡ 8) ⊎ (8 * k + r ≡ count) → byte_of_bits bits k ≡ get_or bytes k 0 % 2 ^ r

@@ -27,7 +27,8 @@ count_add f m (suc n) =
     let e : m + suc n ≡ suc (m + n) = omega arith in
     ap (count_below f) e ∙ omega (arith, count_add f m n)
 
-digit_again : (d : ℕ) → d < 2 → cond (eqb d 1) 1 0 ≡ d
+-- a digit is what its test for 1 says
+pub digit_again : (d : ℕ) → d < 2 → cond (eqb d 1) 1 0 ≡ d
 digit_again zero h = refl
 digit_again (suc zero) h = refl
 digit_again (suc (suc d)) h = absurd (omega arith)

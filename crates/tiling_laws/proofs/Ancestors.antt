@@ -28,7 +28,7 @@ ancestor_is_tile scheme k t tile = record {
   flat = up_flat scheme t.z k tile.flat;
 }
 
-by_one : (n : ℕ) → n / 1 ≡ n
+pub by_one : (n : ℕ) → n / 1 ≡ n
 by_one n = omega arith
 
 by_no_place : (scheme : Scheme) (n : ℕ) → n / branching scheme ^ 0 ≡ n

@@ -83,7 +83,7 @@ one_level scheme k l a b ha hb same (inl is) = is
 one_level scheme k l a b ha hb same (inr (inl low)) = absurd (omega (arith, level_more scheme k, nodes_grow scheme (k + 1) l (omega arith)))
 one_level scheme k l a b ha hb same (inr (inr high)) = absurd (omega (arith, level_more scheme l, nodes_grow scheme (l + 1) k (omega arith)))
 
-local_low : (layout : Layout) (t : Tile) → local_level layout t ≤ t.level
+pub local_low : (layout : Layout) (t : Tile) → local_level layout t ≤ t.level
 local_low layout t = omega (arith, div-add-mod t.level layout.subtree_levels)
 
 pub tile_from_place : (layout : Layout) (t u : Tile) → IsTile layout.scheme t → IsTile layout.scheme u → subtree_root layout t ≡ subtree_root layout u

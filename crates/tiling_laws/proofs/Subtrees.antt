@@ -9,9 +9,7 @@ use Rattle.implicit_tiling.specs.Scene.{Layout, Scene, Outcome, good, bad, tile_
 use Rattle.implicit_tiling.specs.Availability.{local_level, subtree_root, is_subtree_root, place, tile_bit, child_bit}
 use Rattle.tiling_laws.proofs.Index.{half}
 use Rattle.tiling_laws.proofs.TileAt.{same_tile}
-
-by_one : (n : ℕ) → n / 1 ≡ n
-by_one n = omega arith
+use Rattle.tiling_laws.proofs.Ancestors.{by_one}
 
 pub ancestor_none : (t : Tile) → ancestor 0 t ≡ t
 ancestor_none t = same_tile (ancestor 0 t) t (omega arith) (by_one t.x) (by_one t.y) (by_one t.z)

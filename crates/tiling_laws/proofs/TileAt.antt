@@ -35,7 +35,7 @@ pub last_below : (scheme : Scheme) (i : ℕ) → i % branching scheme < branchin
 last_below Quad i = omega arith
 last_below Oct i = omega arith
 
-rest_below : (scheme : Scheme) (level i : ℕ) → i < branching scheme ^ suc level → i / branching scheme < branching scheme ^ level
+pub rest_below : (scheme : Scheme) (level i : ℕ) → i < branching scheme ^ suc level → i / branching scheme < branching scheme ^ level
 rest_below Quad level i h = omega (arith, pow-suc 4 level)
 rest_below Oct level i h = omega (arith, pow-suc 8 level)
 

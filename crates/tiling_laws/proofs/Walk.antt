@@ -2,7 +2,7 @@
 use Rattle.std.proofs.Common.{◌≡◌, ℕ, zero, suc, ◌+◌, ◌-◌, ◌/◌, ◌%◌, ◌^◌, ◌<◌, ◌≤◌, Bool, true, false, cond, List, [], ◌∷◌, length, refl, ap, ◌∙◌, arith}
 use Rattle.std.specs.Prelude.{◌&&◌, ◌||◌, ◌==◌, nat_lt, nat_le, not, slice_index, filter, Option, take, option_map}
 use Rattle.std.specs.List.{filter_map, cons_option, All}
-use Rattle.std.proofs.Math.Nat.{div-mul-le_self, div-add-mod}
+use Rattle.std.proofs.Math.Nat.{div-mul-le_self}
 use Rattle.std.proofs.lemmas.Nat.{shr-shr, le-div, pow_pos}
 use Rattle.std.proofs.lemmas.Bool.{and_parts, and_from, le-leb, leb-true, eqb-false, eq-eqb, or_left}
 use Rattle.std.proofs.lemmas.List.Elements.{All-head, All-tail}
@@ -16,6 +16,7 @@ use Rattle.tiling_laws.proofs.TileAt.{tile_at_is_tile}
 use Rattle.tiling_laws.proofs.Ancestors.{ancestor_is_tile}
 use Rattle.tiling_laws.proofs.Order.{of_all_tiles}
 use Rattle.tiling_laws.proofs.Subtrees.{root_of_root}
+use Rattle.tiling_laws.proofs.Places.{local_low}
 use Rattle.tiling_laws.proofs.Available.{available_reached, own_root_reached, top_is_root, reached_from}
 
 -- tests that agree where what stands beside them holds
@@ -76,9 +77,6 @@ ancestor_in_region region k t le h =
 -- files that are alike at the roots on the walk
 record IsAlike (layout : Layout) (one other : Tile → Outcome) (region : Region) : Type 0 where
   alike : (r : Tile) → IsTile layout.scheme r → is_on_walk (scene layout one) region r ≡ true → one r ≡ other r
-
-local_low : (layout : Layout) (t : Tile) → local_level layout t ≤ t.level
-local_low layout t = omega (arith, div-add-mod t.level layout.subtree_levels)
 
 -- are alike at the root of the subtree of a tile in the region, where that root is reached
 root_alike : (layout : Layout) (one other : Tile → Outcome) (region : Region) → IsAlike layout one other region → (t : Tile) → IsTile layout.scheme t → is_in region t ≡ true
