@@ -14,7 +14,8 @@ use Rattle.implicit_tiling.specs.Subtree.{IsSubtree, is_kept, node_bit, has_tile
 use Rattle.implicit_tiling.specs.Bits.{bit_at}
 use Rattle.walk_laws.proofs.Lists.{of_range}
 use Rattle.walk_laws.proofs.Runs.{below, below_level}
-use Rattle.walk_laws.proofs.Plain.{below_parent, parent_fits}
+use Rattle.tiling_laws.proofs.TileAt.{rest_below}
+use Rattle.walk_laws.proofs.Plain.{below_parent}
 use Rattle.walk_laws.proofs.Children.{IsStart, start_of}
 use Rattle.tile_occupancy.specs.Occupied.{tiles_of}
 use Rattle.build_laws.specs.Made.{tile_in, under, has_content, node_bits, child_roots, child_place, made_subtree, made_roots}
@@ -50,7 +51,7 @@ parent_is_there layout words r (suc k) m are is some low h one =
     let here = tile_of_node layout words r (suc k) m start low h parts.1 in
     let up = parent_there scheme layout.levels words (below scheme (suc k) r m) are.whole here (omega (arith, below_level scheme (suc k) r m)) in
     let above : Contains (tiles_of scheme words) (below scheme k r (m / branching scheme)) = subst (Contains (tiles_of scheme words)) (below_parent scheme k r m) up in
-    let bit = node_of_tile layout words r k (m / branching scheme) start (omega (arith, low)) (parent_fits scheme k m h) above in
+    let bit = node_of_tile layout words r k (m / branching scheme) start (omega (arith, low)) (rest_below scheme k m h) above in
     let kept : is_kept s k ≡ true = lt-ltb (r.level + k) layout.levels (omega (arith, ltb-true (r.level + suc k) layout.levels parts.0)) in
     let back : k ≡ suc k - 1 = omega arith in
     subst (λ l. has_tile s l (m / branching scheme) ≡ true) back (and_from (is_kept s k) (bit_at s.tiles (nodes_above scheme k + m / branching scheme)) kept bit)

@@ -28,7 +28,9 @@ use Rattle.request_text.specs.Found.{found_text, end_of_check}
 use Rattle.tile_coords.specs.Found.{found_of}
 use Rattle.tile_coords.specs.Ends.{end_seen}
 use Rattle.tileset_json.specs.Limits.{IsWithinLimits}
+use Rattle.implicit_tiling.proofs.Tables.{refuse-good}
 use Rattle.walk_laws.proofs.Regions.{accepted_is_a_region}
+use Rattle.subtree_outcome.proofs.Reading.{of_told}
 use Rattle.request_text.proofs.Found.{found_make_the_text}
 use Rattle.request_text.proofs.Words.{words_make_the_text}
 use Rattle.program_status.specs.declared.status.Status.{Status}
@@ -43,15 +45,6 @@ use Rattle.walk_laws.specs.Plans.{FitsLayout}
 use Rattle.tile_word.specs.Answers.{IsAnswer}
 use Rattle.implicit_tiling.specs.Code.{tile_word}
 use Rattle.tile_walk.specs.Checks.{IsCheck}
-
--- a fact of each list of files that a source tells
-pub of_told : (told : Option Files) (P Q : Files → Type 0) → ((all : Files) → P all → Q all) → IfSome told P → IfSome told Q
-of_told None P Q f h = tt
-of_told (Some all) P Q f h = f all h
-
-pub of_each : (told : Option Files) (P : Files → Type 0) → ((all : Files) → P all) → IfSome told P
-of_each None P f = tt
-of_each (Some all) P f = f all
 
 -- nothing was given, which is a front of any text
 pub nothing_given : (before : Option (List ℕ)) (text : List ℕ) → GivesFront before before text
@@ -115,11 +108,6 @@ told_begun told layout plan words end before now fits within answers front =
 abbrev ok_region : Region → Result Region ℕ
 ok_region r = Ok r
 
--- a row that doesn't hold passes on
-passed : {B : Type 0} (number : ℕ) (test : Bool) (rest : Result B ℕ) (b : B) → refuse number test rest ≡ Ok b → (test ≡ false) × (rest ≡ Ok b)
-passed number true rest b h = cc
-passed number false rest b h = (refl, h)
-
 planned_is : (scheme : Scheme) (r : Result Region ℕ) (plan : Plan) → planned scheme r ≡ Ok plan → (r ≡ Ok plan.region) × (plan.scheme ≡ scheme)
 planned_is scheme (Ok region) plan h =
     let made : Plan = record { scheme = scheme; region = region } in
@@ -130,9 +118,9 @@ planned_is scheme (Err n) plan h = cc
 region_is : (levels level : ℕ) (lo hi : List ℕ) (region : Region) → region_of levels level lo hi ≡ Ok region → record { level = level; lo = lo; hi = hi } ≡ region
 region_is levels level lo hi region h =
     let made : Region = record { level = level; lo = lo; hi = hi } in
-    let one = passed 1 (nat_le levels level) _ region h in
-    let two = passed 2 (some_axis (λ axis. nat_lt (slice_index hi axis) (slice_index lo axis))) _ region one.1 in
-    let three = passed 3 (some_axis (λ axis. nat_le (2 ^ level) (slice_index hi axis))) (Ok made) region two.1 in
+    let one = refuse-good 1 (nat_le levels level) _ region h in
+    let two = refuse-good 2 (some_axis (λ axis. nat_lt (slice_index hi axis) (slice_index lo axis))) _ region one.1 in
+    let three = refuse-good 3 (some_axis (λ axis. nat_le (2 ^ level) (slice_index hi axis))) (Ok made) region two.1 in
     let last : ok_region made ≡ ok_region region = three.1 in cc
 
 accepted_again : (levels level : ℕ) (lo hi : List ℕ) (region : Region) → region_of levels level lo hi ≡ Ok region → region_of levels region.level region.lo region.hi ≡ Ok region
@@ -158,7 +146,7 @@ flat_at scheme cs box same h = let P : List ℕ → Type 0 = λ b. slice_index b
 pub plan_fits : (layout : Layout) (read : Option Line) (plan : Plan) → plan_of_line layout.scheme layout.levels read ≡ Ok plan → FitsLayout layout plan
 plan_fits layout None plan h = cc
 plan_fits layout (Some line) plan h =
-    let axes_fit = passed 2 (not (length line.lo == axes layout.scheme && length line.hi == axes layout.scheme)) _ plan h in
+    let axes_fit = refuse-good 2 (not (length line.lo == axes layout.scheme && length line.hi == axes layout.scheme)) _ plan h in
     let both = and_parts _ _ (not_false _ axes_fit.0) in
     let made = planned_is layout.scheme (region_of layout.levels line.level (three line.lo) (three line.hi)) plan axes_fit.1 in
     let is = region_is layout.levels line.level (three line.lo) (three line.hi) plan.region made.0 in

@@ -7,6 +7,7 @@ use Rattle.implicit_tileset.specs.Scene.{scene_of, layout_in}
 use Rattle.scene_ports.specs.Output.{GivesFront}
 use Rattle.build_laws.specs.Holds.{HoldsTiles}
 use Rattle.tile_builder.specs.Puts.{ArePut, IsCut, IfTold}
+use Rattle.tile_builder.proofs.Putting.{told_weaker}
 use Rattle.tileset_make.specs.declared.recipe.Recipe.{Recipe}
 use Rattle.tileset_make.specs.Recipes.{recipe_layout, recipe_words, recipe_files, Found, survey_of}
 use Rattle.request_text.specs.Made.{made_text, survey_text}
@@ -15,20 +16,15 @@ use Rattle.commands.specs.Replies.{IsBegun}
 use Rattle.commands.specs.Make.{IsMade, Leaves, MakeLeaves, PutsFirst, make_reply}
 use Rattle.commands.specs.Survey.{survey_reply}
 
-told_all : (before now : Option Files) (P Q : Files → Files → Type 0) → ((b n : Files) → P b n → Q b n) → IfTold before now P → IfTold before now Q
-told_all None now P Q f h = tt
-told_all (Some b) None P Q f h = h
-told_all (Some b) (Some n) P Q f h = f b n h
-
 -- all files were put
 whole : (files before now : Files) → ArePut files before now → IsCut files before now
 whole files before now put = record { done = files; rest = []; parts = sym (append-nil files); put = put }
 
 pub left_whole : (before now : Option Files) (r : Recipe) → IfTold before now (ArePut (recipe_files r)) → IfTold before now (λ b n. Leaves r b n WriteFault)
-left_whole before now r = told_all before now (ArePut (recipe_files r)) (λ b n. Leaves r b n WriteFault) (λ b n put. inl (whole (recipe_files r) b n put))
+left_whole before now r = told_weaker before now (ArePut (recipe_files r)) (λ b n. Leaves r b n WriteFault) (λ b n put. inl (whole (recipe_files r) b n put))
 
 pub left_in_memory : (before now : Option Files) (r : Recipe) → IfTold before now (ArePut (recipe_files r)) → IfTold before now (λ b n. Leaves r b n Memory)
-left_in_memory before now r = told_all before now (ArePut (recipe_files r)) (λ b n. Leaves r b n Memory) (λ b n put. whole (recipe_files r) b n put)
+left_in_memory before now r = told_weaker before now (ArePut (recipe_files r)) (λ b n. Leaves r b n Memory) (λ b n put. whole (recipe_files r) b n put)
 
 pub left_made : (before now : Option Files) (r : Recipe) → IfTold before now (ArePut (recipe_files r)) → IfTold before now (λ b n. layout_in n ≡ Ok (recipe_layout r))
     → IfTold before now (λ b n. HoldsTiles (scene_of n (recipe_layout r)) (recipe_words r)) → IfTold before now (λ b n. Leaves r b n Done)

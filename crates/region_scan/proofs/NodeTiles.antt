@@ -17,7 +17,7 @@ use Rattle.region_scan.specs.Found.{is_looked_at, first_index}
 use Rattle.region_scan.specs.NodeLaws.{below, IsNode}
 use Rattle.region_scan.proofs.Scan.{none_pass}
 use Rattle.tiling_laws.proofs.Index.{index_below}
-use Rattle.tiling_laws.proofs.TileAt.{same_tile, tile_at_level, tile_at_is_tile, index_of_tile_at, tile_at_index}
+use Rattle.tiling_laws.proofs.TileAt.{rest_below, same_tile, tile_at_level, tile_at_is_tile, index_of_tile_at, tile_at_index}
 use Rattle.tiling_laws.proofs.Ancestors.{branching_pow_pos, descendants}
 use Rattle.tile_word.proofs.Levels.{power_of_branching, indices_fit}
 
@@ -164,10 +164,6 @@ child_below root t n =
     same_tile (child (below root t) n) (below root (child t n)) (omega arith)
     (omega (arith, ap (λ w. root.x * w) wider)) (omega (arith, ap (λ w. root.y * w) wider)) (omega (arith, ap (λ w. root.z * w) wider))
 
-index_above : (scheme : Scheme) (l m : ℕ) → m < branching scheme ^ suc l → m / branching scheme < branching scheme ^ l
-index_above Quad l m h = omega (arith, pow-suc 4 l)
-index_above Oct l m h = omega (arith, pow-suc 8 l)
-
 only_index : (scheme : Scheme) (i m : ℕ) → m < branching scheme ^ 0 → i * branching scheme ^ 0 + m ≡ i
 only_index Quad i m h = omega arith
 only_index Oct i m h = omega arith
@@ -180,7 +176,7 @@ node_coordinates s zero m root_is h =
 node_coordinates s (suc l) m root_is h =
     let n = branching s.scheme in
     ap (λ k. node_at s k m) (sym (add-one l)) ∙ node_child s l m
-    ∙ ap (λ t. child t (m % n)) (node_coordinates s l (m / n) root_is (index_above s.scheme l m h))
+    ∙ ap (λ t. child t (m % n)) (node_coordinates s l (m / n) root_is (rest_below s.scheme l m h))
     ∙ child_below s.root (tile_at s.scheme l (m / n)) (m % n)
 
 -- the root is the ancestor of each node

@@ -10,6 +10,7 @@ use Rattle.scene_ports.specs.declared.keeper.Put.{Put}
 use Rattle.scene_ports.specs.declared.keeper.Put.TheVariants.{Kept, Failed}
 use Rattle.scene_ports.proofs.Named.{file-first, file-later}
 use Rattle.tile_builder.specs.Puts.{ArePut, IsCut, IsCutAt, Stops, IfTold}
+use Rattle.tile_builder.proofs.Putting.{told_weaker}
 use Rattle.tile_builder.specs.declared.builder.BuildStop.{BuildStop}
 use Rattle.tile_builder.specs.declared.builder.BuildStop.TheVariants.{Failed as failed, Memory as memory}
 
@@ -21,11 +22,6 @@ told_twice None b c P Q R both one other = tt
 told_twice (Some before) None c P Q R both one other = absurd one
 told_twice (Some before) (Some mid) None P Q R both one other = other
 told_twice (Some before) (Some mid) (Some now) P Q R both one other = both before mid now one other
-
-pub told_weaker : (a b : Option Files) (P Q : Files → Files → Type 0) → ((before now : Files) → P before now → Q before now) → IfTold a b P → IfTold a b Q
-told_weaker None b P Q weaker one = tt
-told_weaker (Some before) None P Q weaker one = one
-told_weaker (Some before) (Some now) P Q weaker one = weaker before now one
 
 pub told_put : (name bytes : List ℕ) (a b : Option Files) (put : Put) → PutsKnown name bytes a b put → IfTold a b (λ before now. Puts name bytes before now put)
 told_put name bytes None b put puts = tt

@@ -14,7 +14,7 @@ use Rattle.implicit_tiling.specs.Subtree.{Subtree, has_tile, has_child}
 use Rattle.implicit_tiling.specs.Bits.{bit_at}
 use Rattle.implicit_tiling.specs.Nodes.{node_at, indices, is_child_in, children_in}
 use Rattle.implicit_tiling.specs.Steps.{descendants, root_level, walk_roots}
-use Rattle.tiling_laws.proofs.TileAt.{tile_at_is_tile, tile_at_level}
+use Rattle.tiling_laws.proofs.TileAt.{rest_below, tile_at_is_tile, tile_at_level}
 use Rattle.tiling_laws.proofs.Subtrees.{child_low}
 use Rattle.tiling_laws.proofs.Available.{reached_from, reached_says, available_reached}
 use Rattle.walk_laws.specs.Decoded.{IsDecoded}
@@ -23,7 +23,7 @@ use Rattle.tiling_laws.proofs.Walk.{filter_same}
 use Rattle.walk_laws.proofs.Lists.{filter_none, filter-map, filter-flat_map, flat_map_kept, of_range}
 use Rattle.walk_laws.proofs.Runs.{below, below_index, below_level, below_ancestor, of_descendants, of_level, levels_split}
 use Rattle.walk_laws.proofs.Segments.{on_walk_from, below_root}
-use Rattle.walk_laws.proofs.Plain.{plain, plain_is, IsPlain, below_parent, parent_fits, same_test, available_is_bit}
+use Rattle.walk_laws.proofs.Plain.{plain, plain_is, IsPlain, below_parent, same_test, available_is_bit}
 use Rattle.walk_laws.proofs.Decoded.{is_plain, descendants_are}
 
 -- what is known of a root whose subtree has levels
@@ -57,7 +57,7 @@ pub next_fits : (layout : Layout) (r : Tile) (m : ℕ) → IsStart layout r → 
 next_fits layout r m is h =
     let up : layout.subtree_levels ≡ suc (layout.subtree_levels - 1) = omega (arith, is.some) in
     let P : ℕ → Type 0 = λ e. m < branching layout.scheme ^ e in
-    parent_fits layout.scheme (layout.subtree_levels - 1) m (subst P up h)
+    rest_below layout.scheme (layout.subtree_levels - 1) m (subst P up h)
 
 -- its parent is in the subtree of r
 pub next_above : (layout : Layout) (r : Tile) (m : ℕ) → IsStart layout r → m < branching layout.scheme ^ layout.subtree_levels

@@ -13,6 +13,7 @@ use Rattle.implicit_tiling.specs.Availability.{subtree_root, nodes_above, place,
 use Rattle.implicit_tiling.specs.Subtree.{Subtree, IsOf, is_kept, node_bit, has_tile, has_orphan, mask_of_bits, contents_mask, bits_of}
 use Rattle.implicit_tiling.specs.Bits.{bit_at}
 use Rattle.tiling_laws.proofs.Subtrees.{ancestor_none}
+use Rattle.tiling_laws.proofs.TileAt.{rest_below}
 use Rattle.tiling_laws.proofs.Ancestors.{parent_of_child}
 use Rattle.tiling_laws.proofs.Available.{reached_says, available_as_written}
 use Rattle.walk_laws.proofs.Runs.{below, below_index, below_level, below_ancestor}
@@ -63,10 +64,6 @@ below_parent scheme k r m =
     ap (λ l. parent (tile_at scheme l i)) level
     ∙ parent_of_child (tile_at scheme (r.level + k) (i / branching scheme)) (i % branching scheme)
     ∙ ap (λ n. tile_at scheme (r.level + k) n) (parent_number scheme (index scheme r) k m)
-
-pub parent_fits : (scheme : Scheme) (k m : ℕ) → m < branching scheme ^ suc k → m / branching scheme < branching scheme ^ k
-parent_fits Quad k m h = omega (arith, pow-suc 4 k)
-parent_fits Oct k m h = omega (arith, pow-suc 8 k)
 
 -- its bit
 pub below_bit : (s : Scene) (st : Subtree) (k m : ℕ) → IsPlain s st → k < s.layout.subtree_levels → m < branching s.layout.scheme ^ k
@@ -134,7 +131,7 @@ pub available_from_bit : (s : Scene) (st : Subtree) (k m : ℕ) → IsPlain s st
     → has_tile (plain s.layout st) k m ≡ true → is_available s (below s.layout.scheme k st.root m) ≡ true
 available_from_bit s st zero m is low h there = there_from s st 0 m is low h there (above_first s st m is h)
 available_from_bit s st (suc k) m is low h there =
-    let up = available_from_bit s st k (m / branching s.layout.scheme) is (omega arith) (parent_fits s.layout.scheme k m h) (parent_is_there s st k m is low h there) in
+    let up = available_from_bit s st k (m / branching s.layout.scheme) is (omega arith) (rest_below s.layout.scheme k m h) (parent_is_there s st k m is low h there) in
     there_from s st (suc k) m is low h there (inr (ap (is_available s) (below_parent s.layout.scheme k st.root m) ∙ up))
 
 -- tests of one truth

@@ -1,11 +1,12 @@
 -- Regions that are accepted, and the root on the walk of a region.
-use Rattle.std.proofs.Common.{◌≡◌, ℕ, zero, suc, ◌-◌, ◌*◌, ◌/◌, ◌^◌, ◌<◌, ◌≤◌, Bool, true, false, cond, List, [], ◌∷◌, Ok, Result, refl, ap, subst, ◌∙◌, arith}
+use Rattle.std.proofs.Common.{◌≡◌, ℕ, zero, suc, ◌-◌, ◌*◌, ◌/◌, ◌^◌, ◌<◌, ◌≤◌, Bool, true, false, cond, List, [], ◌∷◌, Ok, refl, ap, subst, ◌∙◌, arith}
 use Rattle.std.specs.Prelude.{◌&&◌, ◌||◌, nat_lt, nat_le, slice_index, filter}
 use Rattle.std.proofs.lemmas.Nat.{div_below}
 use Rattle.std.proofs.lemmas.Bool.{and_from, or_parts, ltb-false, leb-false, le-leb}
 use Rattle.implicit_tiling.specs.declared.Scheme.{Scheme}
 use Rattle.implicit_tiling.specs.declared.Scheme.TheVariants.{Quad, Oct}
 use Rattle.implicit_tiling.specs.Checks.{refuse}
+use Rattle.implicit_tiling.proofs.Tables.{refuse-good}
 use Rattle.implicit_tiling.specs.Tile.{root, tiles_of_level}
 use Rattle.implicit_tiling.specs.Region.{Region, is_in, is_within, some_axis, region_of}
 use Rattle.implicit_tiling.specs.Scene.{Scene}
@@ -14,11 +15,6 @@ use Rattle.implicit_tiling.specs.Answer.{is_on_walk}
 use Rattle.implicit_tiling.specs.Steps.{root_level, walk_roots}
 use Rattle.tiling_laws.proofs.Available.{root_is_reached}
 use Rattle.walk_laws.specs.Regions.{IsRegion}
-
--- a table of refusals that gives a value refuses nothing
-refuse_passes : {B : Type 0} (n : ℕ) (test : Bool) (rest : Result B ℕ) (b : B) → refuse n test rest ≡ Ok b → (test ≡ false) × (rest ≡ Ok b)
-refuse_passes n true rest b h = absurd (cc)
-refuse_passes n false rest b h = (refl, h)
 
 -- a test that no axis passes
 axis_fails : (test : ℕ → Bool) → some_axis test ≡ false → (axis : ℕ) → axis < 3 → test axis ≡ false
@@ -32,9 +28,9 @@ accepted_is_a_region levels level lo hi region h =
     let out_of_order : ℕ → Bool = λ axis. nat_lt (slice_index hi axis) (slice_index lo axis) in
     let too_high : ℕ → Bool = λ axis. nat_le (2 ^ level) (slice_index hi axis) in
     let made : Region = record { level = level; lo = lo; hi = hi } in
-    let first = refuse_passes 1 (nat_le levels level) (refuse 2 (some_axis out_of_order) (refuse 3 (some_axis too_high) (Ok made))) region h in
-    let second = refuse_passes 2 (some_axis out_of_order) (refuse 3 (some_axis too_high) (Ok made)) region first.1 in
-    let third = refuse_passes 3 (some_axis too_high) (Ok made) region second.1 in
+    let first = refuse-good 1 (nat_le levels level) (refuse 2 (some_axis out_of_order) (refuse 3 (some_axis too_high) (Ok made))) region h in
+    let second = refuse-good 2 (some_axis out_of_order) (refuse 3 (some_axis too_high) (Ok made)) region first.1 in
+    let third = refuse-good 3 (some_axis too_high) (Ok made) region second.1 in
     let same : made ≡ region = cc (third.1) in
     let is : IsRegion made × (made.level < levels) = (
       record {

@@ -2,11 +2,12 @@ use Rattle.std.proofs.Common.{◌≡◌, ap, subst, length, ◌∙◌}
 use Rattle.std.specs.Prelude.{◌==◌}
 use Rattle.implicit_tiling.specs.Scene.{Layout}
 use Rattle.tileset_json.specs.Limits.{IsWithinLimits}
-use Rattle.commands.proofs.Answering.{of_each, nothing_given, empty_means, told_checked, told_check_begun}
+use Rattle.commands.proofs.Answering.{nothing_given, empty_means, told_checked, told_check_begun}
+use Rattle.subtree_outcome.proofs.Reading.{told_always}
 use Rattle.commands.proofs.check.check_layout.Goals as goal
 
 pub returns-in-Err-Memory-clause-replies : goal.returns-in-Err-Memory-clause-replies
-returns-in-Err-Memory-clause-replies g c = of_each _ _ (λ all. nothing_given _ _)
+returns-in-Err-Memory-clause-replies g c = told_always _ _ (λ all. nothing_given _ _)
 
 pub returns-in-Ok-write_check-clause-replies : goal.returns-in-Ok-write_check-clause-replies
 returns-in-Ok-write_check-clause-replies g c =

@@ -1,7 +1,8 @@
 use Rattle.std.proofs.Common.{sym}
 use Rattle.std.specs.Prelude.{Some, Ok, Err}
 use Rattle.request_text.specs.Lines.{line_seen}
-use Rattle.commands.proofs.Answering.{line_replies, of_each, plan_fits}
+use Rattle.commands.proofs.Answering.{line_replies, plan_fits}
+use Rattle.subtree_outcome.proofs.Reading.{told_always}
 use Rattle.commands.proofs.tiles.answer_line.Goals as goal
 
 pub answer_plan-requires : goal.answer_plan-requires
@@ -11,4 +12,4 @@ pub returns-in-Ok-clause-replies : goal.returns-in-Ok-clause-replies
 returns-in-Ok-clause-replies g c = line_replies _ c.args.layout.now (line_seen c.args.line.now) (Ok c.in-Ok.plan) _ _ _ c.in-Ok.ensures c.answer_plan.ensures.replies
 
 pub returns-in-Err-clause-replies : goal.returns-in-Err-clause-replies
-returns-in-Err-clause-replies g c = line_replies _ c.args.layout.now (line_seen c.args.line.now) (Err c.in-Err.number) _ _ _ c.in-Err.ensures (of_each _ _ (λ all. c.refuse.ensures.replies))
+returns-in-Err-clause-replies g c = line_replies _ c.args.layout.now (line_seen c.args.line.now) (Err c.in-Err.number) _ _ _ c.in-Err.ensures (told_always _ _ (λ all. c.refuse.ensures.replies))

@@ -1,10 +1,11 @@
 use Rattle.std.proofs.Common.{subst}
 use Rattle.tileset_json.specs.Limits.{IsWithinLimits}
-use Rattle.commands.proofs.Answering.{of_each, nothing_given, told_replies, told_begun}
+use Rattle.commands.proofs.Answering.{nothing_given, told_replies, told_begun}
+use Rattle.subtree_outcome.proofs.Reading.{told_always}
 use Rattle.commands.proofs.tiles.answer_plan.Goals as goal
 
 pub returns-in-Err-Memory-clause-replies : goal.returns-in-Err-Memory-clause-replies
-returns-in-Err-Memory-clause-replies g c = of_each _ _ (λ all. nothing_given _ _)
+returns-in-Err-Memory-clause-replies g c = told_always _ _ (λ all. nothing_given _ _)
 
 pub returns-in-Ok-write_answer-clause-replies : goal.returns-in-Ok-write_answer-clause-replies
 returns-in-Ok-write_answer-clause-replies g c =

@@ -11,7 +11,8 @@ use Rattle.tile_builder.specs.Puts.{ArePut, Stops, IfTold}
 use Rattle.tileset_make.specs.Recipes.{tileset_files}
 use Rattle.tileset_make.proofs.Names.{not_made}
 use Rattle.tileset_make.proofs.Counts.{length-tileset_files, few_roots}
-use Rattle.tileset_make.proofs.Puts.{told_twice, told_weaker, told_put, put_last, stopped_before, stopped_at_last, err_exit}
+use Rattle.tile_builder.proofs.Putting.{told_weaker}
+use Rattle.tileset_make.proofs.Puts.{told_twice, told_put, put_last, stopped_before, stopped_at_last, err_exit}
 use Rattle.tileset_make.proofs.Scenes.{still_hold, layout_read}
 use Rattle.tileset_make.proofs.tileset.put_tileset.Goals as goal
 
