@@ -9,3 +9,6 @@ mod nodes;
 
 pub use children::child_roots_plain;
 pub use level::level_tiles_plain;
+
+#[cfg(test)]
+mod tests;
