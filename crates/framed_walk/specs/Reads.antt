@@ -41,7 +41,8 @@ after_turn key found asked frames = after_unpin (frame_of asked) (in_turn key fo
 -- from some frames to others by a turn with each key, one after another: so many files are read
 abbrev pub Turns : Frames ℕ Outcome → List ℕ → Frames ℕ Outcome → ℕ → Type 0
 Turns frames [] last reads = (last ≡ frames) × (reads ≡ 0)
-Turns frames (key ∷ keys) last reads = (asked : Asked) × (found : Outcome) × (rest : ℕ) × IsAskAnswer eqb key frames asked
+Turns frames (key ∷ keys) last reads = (asked : Asked) × (found : Outcome) × (rest : ℕ)
+    × IsAskAnswer eqb key frames asked
     × Turns (after_turn key found asked frames) keys last rest × (reads ≡ reads_of asked + rest)
 
 -- the keys of the steps of a walk, in their order
@@ -60,7 +61,8 @@ pub record IsReadOver (n : ℕ) (layout : Layout) (told : Option Files) (region 
   pub keys : List ℕ
   pub last : Frames ℕ Outcome
   pub read : HasRead (empty_frames n) keys last before now
-  pub of_steps : IfSome told (λ all. keys ≡ step_keys (scene_of all layout) region (length (steps (scene_of all layout) region)))
+  pub of_steps : IfSome told (λ all. keys ≡ step_keys (scene_of all layout) region
+      (length (steps (scene_of all layout) region)))
 
 -- a turn that has begun: the pool was asked for the key, and what it granted was read by one fetch
 pub record IsInTurn (key f : ℕ) (frames now : Frames ℕ Outcome) (before after : ℕ) : Type 0 where
