@@ -1,10 +1,11 @@
 // The outcomes that frames hold.
-ghost use Rattle.std.specs.Prelude.{◌≡◌, ◌≤◌, IfOk, IfErr, Err};
+ghost use Rattle.std.specs.Prelude.{◌≡◌, ◌≢◌, ◌≤◌, IfOk, IfErr, Err};
 ghost use Rattle.implicit_tiling.specs.Code.{word_level};
-ghost use Rattle.scene_ports.specs.Counts.{Rose};
+ghost use Rattle.scene_ports.specs.Counts.{Rose, one_more};
 ghost use Rattle.tile_word.specs.Roots.{IsRootWord};
 ghost use Rattle.subtree_outcome.specs.Outcomes.{IsOutcomeOf};
 ghost use Rattle.framed_walk.specs.Frames.{AreAtRest, IsHeld};
+ghost use Rattle.framed_walk.specs.Reads.{IsInTurn};
 
 use frame_pool::{Asked, Pool};
 use scene_ports::FileSource;
@@ -27,7 +28,10 @@ pub(crate) fn hold<S: FileSource>(
     ensures held { IfOk result (λ frame. IsHeld layout.now (S.told files.old) key frame pool.new) }
     ensures rest { IfErr result (λ stop. AreAtRest layout.now (S.told files.old) pool.new) }
     ensures failed { result ≡ Err WalkStop.ReadFault → Rose (S.faults files.old) (S.faults files.new) }
+    ensures sure { result ≢ Err WalkStop.ReadFault → S.faults files.new ≡ S.faults files.old }
     ensures later { S.faults files.old ≤ S.faults files.new }
+    ensures turn { IfOk result
+        (λ frame. IsInTurn key frame pool.old pool.new (S.fetches files.old) (S.fetches files.new)) }
     ensures same { S.told files.new ≡ S.told files.old }
 {
     match pool.ask(key) {
@@ -57,7 +61,9 @@ fn read<S: FileSource>(
     requires { IsRootWord layout.now (word_level key) key }
     ensures outcome { IfOk result (IsOutcomeOf layout.now (S.told files.old) key) }
     ensures failed { result ≡ Err WalkStop.ReadFault → Rose (S.faults files.old) (S.faults files.new) }
+    ensures sure { result ≢ Err WalkStop.ReadFault → S.faults files.new ≡ S.faults files.old }
     ensures later { S.faults files.old ≤ S.faults files.new }
+    ensures fetched { IfOk result (λ found. S.fetches files.new ≡ one_more (S.fetches files.old)) }
     ensures same { S.told files.new ≡ S.told files.old }
 {
     read_subtree(alloc, files, layout, root_tile(layout, key))

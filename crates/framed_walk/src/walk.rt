@@ -1,5 +1,6 @@
 // The walk of a region over frames.
-ghost use Rattle.std.specs.Prelude.{◌≡◌, ◌≢◌, ◌≤◌, [], IfOk, IfErr, IfSome, Err};
+ghost use Rattle.std.specs.Prelude.{ℕ, ◌≡◌, ◌≢◌, ◌≤◌, List, [], length, IfOk, IfErr, IfSome, Err};
+ghost use Rattle.implicit_tiling.specs.Steps.{steps};
 ghost use Rattle.implicit_tileset.specs.Scene.{scene_of};
 ghost use Rattle.frame_pool.specs.Frames.{most_frames};
 ghost use Rattle.scene_ports.specs.Counts.{Rose};
@@ -10,6 +11,7 @@ ghost use Rattle.region_cursor.specs.Walked.{IsAt};
 ghost use Rattle.walk_laws.specs.Plans.{FitsLayout, IsRegionOf};
 ghost use Rattle.tile_word.specs.Answers.{AreFound, IsAnswer};
 ghost use Rattle.framed_walk.specs.Frames.{AreAtRest};
+ghost use Rattle.framed_walk.specs.Reads.{HasRead, IsReadOver, step_keys};
 
 use crate::frames::hold;
 use frame_pool::Pool;
@@ -42,7 +44,10 @@ pub fn framed<S: FileSource>(
     ensures over { IfOk result (λ end. end ≢ WalkEnd.Partial) }
     ensures unchanged { IfErr result (λ stop. words.new.items ≡ words.old.items) }
     ensures failed { result ≡ Err WalkStop.ReadFault → Rose (S.faults files.old) (S.faults files.new) }
+    ensures sure { result ≢ Err WalkStop.ReadFault → S.faults files.new ≡ S.faults files.old }
     ensures later { S.faults files.old ≤ S.faults files.new }
+    ensures fetched { IfOk result (λ end. IsReadOver frames layout.now (S.told files.old) plan.now.region
+        (S.fetches files.old) (S.fetches files.new)) }
     ensures same { S.told files.new ≡ S.told files.old }
 {
     let mut pool = Pool::new(alloc, frames)?;
@@ -74,7 +79,12 @@ fn walk<S: FileSource>(
     ensures end { IfOk result (EndsAtRoot layout.now.scheme) }
     ensures over { IfOk result (λ end. end ≢ WalkEnd.Partial) }
     ensures failed { result ≡ Err WalkStop.ReadFault → Rose (S.faults files.old) (S.faults files.new) }
+    ensures sure { result ≢ Err WalkStop.ReadFault → S.faults files.new ≡ S.faults files.old }
     ensures later { S.faults files.old ≤ S.faults files.new }
+    ensures fetched { IfOk result (λ end. (keys : List ℕ)
+        × HasRead pool.old keys pool.new (S.fetches files.old) (S.fetches files.new)
+        × IfSome (S.told files.old) (λ all. keys ≡ step_keys (scene_of all layout.now) cursor.old.region
+        (length (steps (scene_of all layout.now) cursor.old.region)))) }
     ensures same { S.told files.new ≡ S.told files.old }
 {
     let mut end = WalkEnd::Partial;

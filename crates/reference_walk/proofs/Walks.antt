@@ -1,5 +1,5 @@
 -- A walk over its pairs, part by part.
-use Rattle.std.proofs.Common.{◌≡◌, ◌≢◌, ℕ, ◌+◌, ◌-◌, ◌<◌, ◌≤◌, List, [], ◌∷◌, ◌++◌, length, map, take, drop, get_or, None, refl, sym, ap, subst, ◌∙◌, arith, append_assoc, append-nil}
+use Rattle.std.proofs.Common.{◌≡◌, ◌≢◌, ℕ, ◌+◌, ◌-◌, ◌<◌, ◌≤◌, List, [], ◌∷◌, ◌++◌, length, map, take, drop, get_or, None, refl, sym, ap, subst, ◌∙◌, arith, append_assoc, append-nil, length-append}
 use Rattle.std.specs.List.{flat_map, range_with_len}
 use Rattle.std.proofs.lemmas.List.{map-append, length-map, take_more, take-append-drop, take-map}
 use Rattle.std.proofs.lemmas.List.Elements.{All-append}
@@ -14,6 +14,8 @@ use Rattle.walk_laws.specs.Pairs.{tiles_of_pairs, level_pairs, pairs_above}
 use Rattle.walk_laws.proofs.Lists.{map-map}
 use Rattle.walk_laws.proofs.Pairs.{pairs_go_down, pairs_above_come_first}
 use Rattle.walk_laws.proofs.PairAnswers.{answer_is_complete, answer_stops_at_a_fault, answer_is_cut}
+use Rattle.scene_ports.specs.Counts.{more_by}
+use Rattle.subtree_outcome.proofs.Counting.{more_at_most, then_at_most}
 use Rattle.tile_coords.specs.declared.walk_end.WalkEnd.{WalkEnd}
 use Rattle.tile_coords.specs.declared.walk_end.WalkEnd.TheVariants.{Partial, Complete, TooMany, Fault}
 use Rattle.tile_word.specs.Answers.{IsAnswer}
@@ -172,3 +174,27 @@ answer_at_level s region level words end some low over root is =
     let rest = flat_map (level_pairs s region) (range_with_len (level + 1) (region.level + 1 - (level + 1))) in
     ended_answer s region words end some over root
     (subst P (sym (pairs_above_come_first s region (level + 1) (omega (arith, low)))) (walks_no_more s region (pairs_above s region (level + 1)) rest [] words end over is))
+
+-- the fetches of one level more: at most one for each of its pairs
+pub read_one_level : (s : Scene) (region : Region) (level : ℕ) (roots these : List ℕ) (begin mid now : ℕ) → these ≡ roots → map (word_tile s.layout.scheme) roots ≡ walk_roots s region level
+    → mid ≤ more_by (length (pairs_above s region level)) begin → now ≤ more_by (length these) mid → now ≤ more_by (length (pairs_above s region (level + 1))) begin
+read_one_level s region level roots these begin mid now same are so more =
+    let above = pairs_above s region level in
+    let count : length (pairs_above s region (level + 1)) ≡ length above + length these =
+    omega (
+      arith,
+      ap (length {A = Pair}) (pairs_go_down s region level ∙ ap (λ w. above ++ w) (sym (level_pairs_are s region level roots are))),
+      length-append above (map (word_pair s.layout.scheme level) roots),
+      length-map roots (word_pair s.layout.scheme level),
+      ap (length {A = ℕ}) same,
+    ) in
+    omega (arith, then_at_most (length these) (length above) begin mid now so more, ap (λ n. more_by n begin) count)
+
+-- and of all levels
+pub read_at_most : (s : Scene) (region : Region) (level begin now : ℕ) → level ≤ region.level + 1 → now ≤ more_by (length (pairs_above s region level)) begin
+    → now ≤ more_by (length (pairs s region)) begin
+read_at_most s region level begin now low so =
+    let above = pairs_above s region level in
+    let rest = flat_map (level_pairs s region) (range_with_len level (region.level + 1 - level)) in
+    let count = ap (length {A = Pair}) (pairs_above_come_first s region level low) in
+    omega (arith, so, more_at_most (length above) (length (pairs s region)) begin (omega (arith, count, length-append above rest)))

@@ -1,10 +1,10 @@
 // One level of a walk.
-ghost use Rattle.std.specs.Prelude.{◌≡◌, ◌+◌, ◌≤◌, ◌++◌, map, true, IfOk, IfSome, Ok, Err};
+ghost use Rattle.std.specs.Prelude.{◌≡◌, ◌≢◌, ◌+◌, ◌≤◌, ◌++◌, map, length, true, IfOk, IfSome, Ok, Err};
 ghost use Rattle.std.specs.List.{All, flat_map};
 ghost use Rattle.implicit_tiling.specs.Code.{word_tile};
 ghost use Rattle.implicit_tiling.specs.Steps.{root_level};
 ghost use Rattle.implicit_tileset.specs.Scene.{scene_of};
-ghost use Rattle.scene_ports.specs.Counts.{Rose};
+ghost use Rattle.scene_ports.specs.Counts.{Rose, more_by};
 ghost use Rattle.tile_coords.specs.Ends.{EndsAtRoot};
 ghost use Rattle.tile_word.specs.Roots.{AreRoots};
 ghost use Rattle.tile_word.specs.Answers.{AreFound};
@@ -44,7 +44,9 @@ pub(crate) fn walk_level<S: FileSource>(
     ensures next { IfOk result (λ end. AreRoots layout.now (level + 1) next.new.items) }
     ensures end { IfOk result (EndsAtRoot layout.now.scheme) }
     ensures failed { result ≡ Err WalkStop.ReadFault → Rose (S.faults files.old) (S.faults files.new) }
+    ensures sure { result ≢ Err WalkStop.ReadFault → S.faults files.new ≡ S.faults files.old }
     ensures later { S.faults files.old ≤ S.faults files.new }
+    ensures fetched { IfOk result (λ end. S.fetches files.new ≤ more_by (length roots.now) (S.fetches files.old)) }
     ensures same { S.told files.new ≡ S.told files.old }
 {
     for root in roots {

@@ -1,7 +1,8 @@
 // The walk of a region.
-ghost use Rattle.std.specs.Prelude.{◌≡◌, ◌≢◌, ◌≤◌, IfOk, IfErr, IfSome, Err, []};
+ghost use Rattle.std.specs.Prelude.{◌≡◌, ◌≢◌, ◌≤◌, IfOk, IfErr, IfSome, Err, [], length};
+ghost use Rattle.implicit_tiling.specs.Steps.{pairs};
 ghost use Rattle.implicit_tileset.specs.Scene.{scene_of};
-ghost use Rattle.scene_ports.specs.Counts.{Rose};
+ghost use Rattle.scene_ports.specs.Counts.{Rose, more_by};
 ghost use Rattle.tile_coords.specs.Ends.{EndsAtRoot};
 ghost use Rattle.walk_laws.specs.Plans.{FitsLayout, IsRegionOf};
 ghost use Rattle.tile_word.specs.Answers.{AreFound, IsAnswer};
@@ -34,7 +35,10 @@ pub fn fresh<S: FileSource>(
     ensures over { IfOk result (λ end. end ≢ WalkEnd.Partial) }
     ensures unchanged { IfErr result (λ stop. words.new.items ≡ words.old.items) }
     ensures failed { result ≡ Err WalkStop.ReadFault → Rose (S.faults files.old) (S.faults files.new) }
+    ensures sure { result ≢ Err WalkStop.ReadFault → S.faults files.new ≡ S.faults files.old }
     ensures later { S.faults files.old ≤ S.faults files.new }
+    ensures fetched { IfSome (S.told files.old) (λ all. IfOk result (λ end. S.fetches files.new
+        ≤ more_by (length (pairs (scene_of all layout.now) plan.now.region)) (S.fetches files.old))) }
     ensures same { S.told files.new ≡ S.told files.old }
 {
     let mut found = Vec::new(alloc);
@@ -59,7 +63,10 @@ fn walk<S: FileSource>(
     ensures end { IfOk result (EndsAtRoot layout.now.scheme) }
     ensures over { IfOk result (λ end. end ≢ WalkEnd.Partial) }
     ensures failed { result ≡ Err WalkStop.ReadFault → Rose (S.faults files.old) (S.faults files.new) }
+    ensures sure { result ≢ Err WalkStop.ReadFault → S.faults files.new ≡ S.faults files.old }
     ensures later { S.faults files.old ≤ S.faults files.new }
+    ensures fetched { IfSome (S.told files.old) (λ all. IfOk result (λ end. S.fetches files.new
+        ≤ more_by (length (pairs (scene_of all layout.now) region.now)) (S.fetches files.old))) }
     ensures same { S.told files.new ≡ S.told files.old }
 {
     let mut roots = first_roots(alloc, layout.scheme)?;

@@ -1,11 +1,11 @@
 // One local level of one subtree.
-ghost use Rattle.std.specs.Prelude.{◌≡◌, ◌+◌, ◌%◌, ◌<◌, ◌≤◌, ◌++◌, ◌∷◌, [], map, true, IfOk, IfSome, Ok, Err, length};
+ghost use Rattle.std.specs.Prelude.{◌≡◌, ◌≢◌, ◌+◌, ◌%◌, ◌<◌, ◌≤◌, ◌++◌, ◌∷◌, [], map, true, IfOk, IfSome, Ok, Err, length};
 ghost use Rattle.implicit_tiling.specs.Answer.{most_tiles};
 ghost use Rattle.implicit_tiling.specs.Code.{word_tile as word_tile_of};
 ghost use Rattle.implicit_tiling.specs.Subtree.{IsSubtree};
 ghost use Rattle.implicit_tiling.specs.Steps.{root_level};
 ghost use Rattle.implicit_tileset.specs.Scene.{scene_of};
-ghost use Rattle.scene_ports.specs.Counts.{Rose};
+ghost use Rattle.scene_ports.specs.Counts.{Rose, one_more};
 ghost use Rattle.tile_coords.specs.Ends.{EndsAtRoot};
 ghost use Rattle.reference_walk.specs.Appended.{Appends};
 ghost use Rattle.tile_word.specs.Roots.{IsRootWord, AreRoots};
@@ -50,7 +50,9 @@ pub(crate) fn step<S: FileSource>(
     ensures next { IfOk result (λ end. AreRoots layout.now (level + 1) next.new.items) }
     ensures end { IfOk result (EndsAtRoot layout.now.scheme) }
     ensures failed { result ≡ Err WalkStop.ReadFault → Rose (S.faults files.old) (S.faults files.new) }
+    ensures sure { result ≢ Err WalkStop.ReadFault → S.faults files.new ≡ S.faults files.old }
     ensures later { S.faults files.old ≤ S.faults files.new }
+    ensures fetched { IfOk result (λ end. S.fetches files.new ≡ one_more (S.fetches files.old)) }
     ensures same { S.told files.new ≡ S.told files.old }
 {
     let tile = root_tile(layout, root);

@@ -180,6 +180,14 @@ pub walked_on : (s : Scene) (region : Region) (c after : Cursor) (next later : O
 walked_on s region c after next later words more end last w gives stands key all is =
     one_more_by s region c after next later words more end last w (slice_get (steps s region) w.made) refl gives stands key all is
 
+one_more_made : (s : Scene) (region : Region) (c after : Cursor) (next later : Option ℕ) (words more : List ℕ) (end last : WalkEnd) (w : HasWalked s region c next words end) (here : Option Step)
+    → (at : slice_get (steps s region) w.made ≡ here) (gives : IsSomeAnd here (λ step. (more ≡ map (tile_word s) step.tiles) × (end_seen s.layout.scheme last ≡ step.end)))
+    → (stands : IsAt s region (w.made + 1) after) (key : IsNextKey s region (w.made + 1) later) (all : List ℕ) (is : all ≡ words ++ more)
+    → (one_more_by s region c after next later words more end last w here at gives stands key all is).made ≡ w.made + 1
+unfolding one_more_by one_more
+one_more_made s region c after next later words more end last w None at gives stands key all is = absurd gives
+one_more_made s region c after next later words more end last w (Some x) at gives stands key all is = refl
+
 -- a walk without a next key has the answer
 pub is_answer : (s : Scene) (region : Region) (c : Cursor) (words : List ℕ) (end : WalkEnd) → HasWalked s region c None words end → EndsAtRoot s.layout.scheme end → 1 ≤ s.layout.subtree_levels → IsRegionOf s.layout region
     → IsAnswer s region words end
@@ -209,3 +217,14 @@ goes_on s region c after next later words more all end last same too step follow
     let stands = subst (λ (r : Region). IsAt s r (w.made + 1) after) same made_here.1 in
     let key = subst (λ (r : Region). IsNextKey s r (w.made + 1) later) too (follow (w.made + 1) (subst (λ (r : Region). IsAt s r (w.made + 1) after) (sym too) stands)) in
     walked_on s region c after next later words more end last w gives stands key all is
+
+-- it makes one step more
+pub goes_on_by_one : (s : Scene) (region : Region) (c after : Cursor) (next later : Option ℕ) (words more all : List ℕ) (end last : WalkEnd) → c.region ≡ region → after.region ≡ region
+    → ((k : ℕ) → IsAt s c.region k c → GivesStep s c.region k more last × IsAt s c.region (k + 1) after)
+    → ((k : ℕ) → IsAt s after.region k after → IsNextKey s after.region k later)
+    → all ≡ words ++ more → (w : HasWalked s region c next words end) → (v : HasWalked s region after later all last) × (v.made ≡ w.made + 1)
+unfolding goes_on walked_on
+goes_on_by_one s region c after next later words more all end last same too step follow is w = (
+  goes_on s region c after next later words more all end last same too step follow is w,
+  one_more_made s region c after next later words more end last w (slice_get (steps s region) w.made) refl _ _ _ all is,
+)

@@ -3,7 +3,8 @@ use Rattle.std.specs.Prelude.{ℕ, ◌≡◌, Some}
 use Rattle.implicit_tiling.specs.Region.{Region}
 use Rattle.implicit_tiling.specs.Scene.{Layout}
 use Rattle.implicit_tiling.specs.Code.{word_tile}
-use Rattle.region_cursor.specs.Cursor.{Cursor, IsWalkOf, IsSameWalk, IsRootKey, Fits, cursor_key, next_root}
+use Rattle.implicit_tiling.specs.Tile.{Tile}
+use Rattle.region_cursor.specs.Cursor.{Cursor, IsWalkOf, IsSameWalk, IsRootKey, Fits, HasNoOrphan, cursor_key, next_root}
 use Rattle.implicit_tiling.specs.Availability.{IsRootOf}
 use Rattle.subtree_outcome.specs.Outcomes.{IsOutcomeAt}
 use Rattle.subtree_outcome.specs.declared.outcome.Outcome.{Outcome}
@@ -19,6 +20,10 @@ abbrev pub OutcomesFit : Type 0
 OutcomesFit = (layout : Layout) (region : Region) (c : Cursor) (key : ℕ) (found : Outcome) → IsWalkOf layout region c
     → cursor_key c ≡ Some key → IsRootKey c key
     → IsOutcomeAt layout (word_tile layout.scheme key) found → Fits c found
+
+abbrev pub ReadOutcomesHaveNoOrphan : Type 0
+ReadOutcomesHaveNoOrphan = (layout : Layout) (root : Tile) (found : Outcome) → IsOutcomeAt layout root found
+    → HasNoOrphan found
 
 abbrev pub NextKeysAreOfRootTiles : Type 0
 NextKeysAreOfRootTiles = (layout : Layout) (region : Region) (c : Cursor) (key : ℕ) → IsWalkOf layout region c

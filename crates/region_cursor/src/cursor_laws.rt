@@ -1,5 +1,6 @@
 // Laws for callers that read the files of a layout (this project's own).
 ghost use Rattle.region_cursor.specs.Laws.{WalksStay, NextRootIsOfTheKey, NextKeysAreOfRootTiles, OutcomesFit};
+ghost use Rattle.region_cursor.specs.Laws.{ReadOutcomesHaveNoOrphan};
 
 /// A walk stays one of its layout and region.
 pub fn a_walk_stays_of_its_layout()
@@ -19,4 +20,9 @@ pub fn the_tile_of_the_key_is_a_root()
 /// What is read of the file of the next key's tile, from any source, fits the next step.
 pub fn an_outcome_of_the_key_fits()
     ensures { OutcomesFit }
+{}
+
+/// Nor has it an orphan: it is one over which a step follows a scene.
+pub fn an_outcome_that_is_read_has_no_orphan()
+    ensures { ReadOutcomesHaveNoOrphan }
 {}

@@ -1,6 +1,10 @@
-use Rattle.std.proofs.Common.{eqb}
+use Rattle.std.proofs.Common.{◌∙◌, eqb, Some, refl, sym, ap}
 use Rattle.std.proofs.lemmas.Bool.{eqb-true}
 use Rattle.framed_walk.proofs.Turns.{has_room, none_waits, some_is_free, hit, brought, given_up}
+use Rattle.frame_pool.specs.declared.frame.Asked.TheVariants.{Hit, Granted}
+use Rattle.frame_pool.specs.Moves.{after_settle}
+use Rattle.subtree_outcome.specs.declared.outcome.Outcome.TheVariants.{Bad}
+use Rattle.subtree_outcome.proofs.Counting.{none_more}
 use Rattle.framed_walk.proofs.frames.hold.Goals as goal
 
 pub ask-requires : goal.ask-requires
@@ -26,3 +30,23 @@ pub returns-in-Err-clause-rest : goal.returns-in-Err-clause-rest
 returns-in-Err-clause-rest g c =
     given_up c.args.layout.now (g.S.FileSource.told c.args.files.now) c.args.pool.now c.args.key c.in-Granted.frame c.requires.rest
     c.ask.new.self c.settle-in-Err.new.self c.in-Granted.ensures.after c.in-Granted.ensures.next c.settle-in-Err.ensures.after
+
+pub returns-in-Hit-clause-turn : goal.returns-in-Hit-clause-turn
+returns-in-Hit-clause-turn g c = record {
+  asked = Hit c.in-Hit.frame;
+  found = Bad 1;
+  answer = c.in-Hit.ensures.answer;
+  frame = refl;
+  held = c.in-Hit.ensures.after;
+  fetched = sym (none_more _);
+}
+
+pub returns-in-Ok-clause-turn : goal.returns-in-Ok-clause-turn
+returns-in-Ok-clause-turn g c = record {
+  asked = Granted c.in-Granted.frame;
+  found = c.in-Ok.outcome;
+  answer = c.in-Granted.ensures.answer;
+  frame = refl;
+  held = c.settle.ensures.after ∙ ap (after_settle c.in-Granted.frame (Some c.in-Ok.outcome)) c.in-Granted.ensures.after;
+  fetched = c.in-Ok.ensures.fetched;
+}

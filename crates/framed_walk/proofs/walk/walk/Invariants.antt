@@ -1,4 +1,4 @@
-use Rattle.std.proofs.Common.{◌≡◌, ◌≤◌, ◌<◌, ◌+◌, ◌-◌, ◌*◌, ◌^◌, length, None}
+use Rattle.std.proofs.Common.{◌≡◌, ℕ, List, ◌≤◌, ◌<◌, ◌+◌, ◌-◌, ◌*◌, ◌^◌, length, None}
 use Rattle.std.specs.Prelude.{IfSome, ◌≢◌}
 use Rattle.implicit_tileset.specs.Scene.{scene_of}
 use Rattle.tile_coords.specs.declared.walk_end.WalkEnd.TheVariants.{Partial}
@@ -6,7 +6,8 @@ use Rattle.region_cursor.specs.Cursor.{IsWalkOf, IsRootKey, cursor_key}
 use Rattle.tile_coords.specs.Ends.{EndsAtRoot}
 use Rattle.tile_word.specs.Answers.{AreFound}
 use Rattle.framed_walk.specs.Frames.{AreAtRest}
-use Rattle.region_cursor.specs.Joined.{HasWalked}
+use Rattle.framed_walk.specs.Reads.{HasRead}
+use Rattle.framed_walk.proofs.Reading.{IsWalkedBy}
 use Rattle.framed_walk.proofs.walk.walk.Given as goal
 
 abbrev pub invariant-loop-next : goal.invariant-loop-next
@@ -21,7 +22,9 @@ invariant-loop-next g l = record {
   found : AreFound l.fn.layout.scheme l.words.items;
   end_is : EndsAtRoot l.fn.layout.scheme l.end;
   over : l.next ≡ None → l.end ≢ Partial;
-  walked : IfSome (g.S.FileSource.told l.fn.files) (λ all. HasWalked (scene_of all l.fn.layout) l.fn.cursor.region l.cursor l.next l.words.items l.end);
+  read : (keys : List ℕ) × HasRead l.fn.pool keys l.pool (g.S.FileSource.fetches l.fn.files) (g.S.FileSource.fetches l.files)
+      × IfSome (g.S.FileSource.told l.fn.files) (λ all. IsWalkedBy (scene_of all l.fn.layout) l.fn.cursor.region l.cursor l.next l.words.items l.end keys);
+  sure : g.S.FileSource.faults l.files ≡ g.S.FileSource.faults l.fn.files;
   later : g.S.FileSource.faults l.fn.files ≤ g.S.FileSource.faults l.files;
   same : g.S.FileSource.told l.files ≡ g.S.FileSource.told l.fn.files;
 }

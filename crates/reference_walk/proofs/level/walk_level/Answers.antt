@@ -1,4 +1,4 @@
-use Rattle.std.proofs.Common.{◌≡◌, ◌+◌, ◌++◌, ◌∷◌, [], ◌∙◌, map, take, take_all, get_or, ap, subst, arith}
+use Rattle.std.proofs.Common.{◌≡◌, ◌+◌, length, ◌++◌, ◌∷◌, [], ◌∙◌, map, take, take_all, get_or, refl, sym, ap, subst, arith, append-nil}
 use Rattle.std.specs.List.{flat_map}
 use Rattle.implicit_tiling.specs.Code.{word_tile}
 use Rattle.implicit_tileset.specs.Scene.{scene_of}
@@ -6,9 +6,25 @@ use Rattle.tile_coords.specs.declared.walk_end.WalkEnd.{WalkEnd}
 use Rattle.tile_coords.specs.declared.walk_end.WalkEnd.TheVariants.{Partial}
 use Rattle.reference_walk.specs.Walks.{GoesOn, Walks, word_pair, next_roots}
 use Rattle.subtree_outcome.proofs.Reading.{both_told, of_told, told_same, told_always}
+use Rattle.subtree_outcome.proofs.Counting.{none_more, then_one, more_at_most, stays}
 use Rattle.tile_walk.proofs.Roots.{one_next_more}
-use Rattle.reference_walk.proofs.Walks.{one_root_more, ends_in_level}
+use Rattle.reference_walk.proofs.Walks.{goes_nowhere, one_root_more, ends_in_level}
 use Rattle.reference_walk.proofs.level.walk_level.Goals as goal
+
+pub loop-root-init : goal.loop-root-init
+loop-root-init g c =
+    let layout = c.args.layout.now in
+    let told = g.S.FileSource.told c.args.files.now in
+    record {
+      walks = told_always told _ (λ all. goes_nowhere (scene_of all layout) c.args.region.now c.args.words.now.items c.requires.found.few);
+      roots_on = told_always told _ (λ all. sym (append-nil (map (word_tile layout.scheme) c.args.next.now.items)));
+      found = c.requires.found;
+      next = c.requires.next;
+      later = omega arith;
+      sure = refl;
+      fetched = sym (none_more _);
+      same = refl;
+    }
 
 pub loop-root-preserved : goal.loop-root-preserved
 loop-root-preserved g c =
@@ -36,6 +52,8 @@ loop-root-preserved g c =
       found = c.in_ok-end.ensures.found;
       next = c.in_ok-end.ensures.next;
       later = omega (arith, c.loop-root.invariant.later, c.step.ensures.later);
+      sure = stays c.step.result _ _ _ _ _ c.in_ok-end.was c.step.ensures.sure c.loop-root.invariant.sure;
+      fetched = then_one c.loop-root.root-index _ _ _ c.loop-root.invariant.fetched c.in_ok-end.ensures.fetched;
       same = c.step.ensures.same ∙ c.loop-root.invariant.same;
     }
 
@@ -51,6 +69,18 @@ returns-in_default-clause-walks g c =
     (λ all on is. ends_in_level (scene_of all layout) region pair c.args.roots.now c.loop-root.root-index c.args.words.now.items c.loop-root.words.items c.step.new.words.items
     c.in_ok-end.end (omega arith) c.in_default.not-Partial on is) c.loop-root.invariant.walks
     (told_same (g.S.FileSource.told c.loop-root.files) (g.S.FileSource.told c.args.files.now) _ c.loop-root.invariant.same c.in_ok-end.ensures.walks)
+
+pub returns-in_default-clause-fetched : goal.returns-in_default-clause-fetched
+returns-in_default-clause-fetched g c =
+    let begin = g.S.FileSource.fetches c.args.files.now in
+    let i = c.loop-root.root-index in
+    let now = then_one i begin _ _ c.loop-root.invariant.fetched c.in_ok-end.ensures.fetched in
+    omega (arith, now, more_at_most (i + 1) (length c.args.roots.now) begin (omega arith))
+
+pub returns-clause-fetched : goal.returns-clause-fetched
+returns-clause-fetched g c =
+    let begin = g.S.FileSource.fetches c.args.files.now in
+    omega (arith, c.loop-root.invariant.fetched, more_at_most c.loop-root.root-index (length c.args.roots.now) begin (omega arith))
 
 pub returns-in_default-clause-roots : goal.returns-in_default-clause-roots
 returns-in_default-clause-roots g c = told_always (g.S.FileSource.told c.args.files.now) _ (λ all goes. absurd (c.in_default.not-Partial goes))

@@ -3,6 +3,7 @@ use Rattle.std.specs.Prelude.{IfSome}
 use Rattle.std.specs.List.{flat_map}
 use Rattle.implicit_tiling.specs.Code.{word_tile}
 use Rattle.implicit_tileset.specs.Scene.{scene_of}
+use Rattle.scene_ports.specs.Counts.{more_by}
 use Rattle.tile_word.specs.Roots.{AreRoots}
 use Rattle.tile_word.specs.Answers.{AreFound}
 use Rattle.reference_walk.specs.Walks.{GoesOn, word_pair, next_roots}
@@ -18,5 +19,7 @@ invariant-loop-root g l = record {
   found : AreFound l.fn.layout.scheme l.words.items;
   next : AreRoots l.fn.layout (l.fn.level + 1) l.next.items;
   later : g.S.FileSource.faults l.fn.files ≤ g.S.FileSource.faults l.files;
+  sure : g.S.FileSource.faults l.files ≡ g.S.FileSource.faults l.fn.files;
+  fetched : g.S.FileSource.fetches l.files ≡ more_by l.root-index (g.S.FileSource.fetches l.fn.files);
   same : g.S.FileSource.told l.files ≡ g.S.FileSource.told l.fn.files;
 }

@@ -6,13 +6,15 @@ use Rattle.implicit_tiling.specs.Region.{Region}
 use Rattle.implicit_tiling.specs.Scene.{Layout}
 use Rattle.implicit_tiling.specs.Steps.{root_level}
 use Rattle.implicit_tileset.specs.Scene.{scene_of}
+use Rattle.scene_ports.specs.Counts.{more_by}
 use Rattle.walk_laws.specs.Pairs.{pairs_above}
 use Rattle.tile_coords.specs.declared.walk_end.WalkEnd.{WalkEnd}
 use Rattle.tile_coords.specs.declared.walk_end.WalkEnd.TheVariants.{Partial}
 use Rattle.tile_word.specs.Roots.{AreRoots, AreWords}
 use Rattle.reference_walk.specs.Walks.{GoesOn, Walks, word_pair, next_roots, is_last, IsWalked}
 use Rattle.subtree_outcome.proofs.Reading.{both_told, three_told, of_told, told_same, told_always}
-use Rattle.reference_walk.proofs.Walks.{one_level_more, answer_at_level, complete_answer}
+use Rattle.subtree_outcome.proofs.Counting.{stays}
+use Rattle.reference_walk.proofs.Walks.{one_level_more, answer_at_level, complete_answer, read_one_level, read_at_most}
 use Rattle.tile_walk.proofs.Roots.{first_roots_are}
 use Rattle.reference_walk.proofs.Frontier.{IsAt, begins, roots_if_next, is_at_next}
 use Rattle.reference_walk.proofs.region.walk.Goals as goal
@@ -33,6 +35,8 @@ loop-level-init g c =
       roots_are = subst P first (first_roots_are layout c.layout.inside.scheme c.in_ok-roots.roots.items scheme some c.in_ok-roots.ensures);
       found = record { are_words = subst W (sym c.requires.empty) (All-nil (IsWord layout.scheme)); few = omega (arith, ap (length {A = ℕ}) c.requires.empty) };
       later = omega arith;
+      sure = refl;
+      fetched = told_always (g.S.FileSource.told c.args.files.now) _ (λ all. omega arith);
       same = refl;
     }
 
@@ -98,8 +102,36 @@ loop-level-preserved g c =
       roots_are = roots_if_next layout level (is_last layout level) roots next c.frontier-roots.result.items some refl c.loop-level.invariant.roots_are c.in_ok-end.ensures.next c.frontier-roots.ensures;
       found = c.in_ok-end.ensures.found;
       later = omega (arith, c.loop-level.invariant.later, c.walk_level.ensures.later);
+      sure = stays c.walk_level.result _ _ _ _ _ c.in_ok-end.was c.walk_level.ensures.sure c.loop-level.invariant.sure;
+      fetched = both_told (g.S.FileSource.told c.args.files.now) (λ all. IsAt (scene_of all layout) region level roots words)
+          (λ all. g.S.FileSource.fetches c.loop-level.files ≤ more_by (length (pairs_above (scene_of all layout) region level)) (g.S.FileSource.fetches c.args.files.now)) _
+          (λ all at so. read_one_level (scene_of all layout) region level roots c.deref.result.now _ _ _ c.deref.ensures.value at.tiles so c.in_ok-end.ensures.fetched)
+          c.loop-level.invariant.at c.loop-level.invariant.fetched;
       same = c.walk_level.ensures.same ∙ c.loop-level.invariant.same;
     }
+
+pub returns-in_default-clause-fetched : goal.returns-in_default-clause-fetched
+returns-in_default-clause-fetched g c =
+    let layout = c.args.layout.now in
+    let region = c.args.region.now in
+    let level = c.loop-level.level in
+    let same = ap (λ (r : Region). r.level) c.region.view_is in
+    both_told (g.S.FileSource.told c.args.files.now) (λ all. IsAt (scene_of all layout) region level c.loop-level.roots.items c.loop-level.words.items)
+    (λ all. g.S.FileSource.fetches c.loop-level.files ≤ more_by (length (pairs_above (scene_of all layout) region level)) (g.S.FileSource.fetches c.args.files.now)) _
+    (λ all at so. let s = scene_of all layout in
+    read_at_most s region (level + 1) _ _ (omega (arith, c.loop-level-test.true, same))
+    (read_one_level s region level c.loop-level.roots.items c.deref.result.now _ _ _ c.deref.ensures.value at.tiles so c.in_ok-end.ensures.fetched))
+    c.loop-level.invariant.at c.loop-level.invariant.fetched
+
+pub returns-clause-fetched : goal.returns-clause-fetched
+returns-clause-fetched g c =
+    let layout = c.args.layout.now in
+    let region = c.args.region.now in
+    let same = ap (λ (r : Region). r.level) c.region.view_is in
+    of_told (g.S.FileSource.told c.args.files.now)
+    (λ all. g.S.FileSource.fetches c.loop-level.files ≤ more_by (length (pairs_above (scene_of all layout) region c.loop-level.level)) (g.S.FileSource.fetches c.args.files.now)) _
+    (λ all so. read_at_most (scene_of all layout) region c.loop-level.level _ _ (omega (arith, c.loop-level-test.false, c.loop-level.auto.level-end, same)) so)
+    c.loop-level.invariant.fetched
 
 pub returns-clause-answer : goal.returns-clause-answer
 returns-clause-answer g c =

@@ -1,7 +1,9 @@
-use Rattle.std.proofs.Common.{◌≡◌, ◌≤◌}
+use Rattle.std.proofs.Common.{◌≡◌, ◌≤◌, length}
 use Rattle.std.specs.Prelude.{IfSome}
 use Rattle.implicit_tiling.specs.Steps.{root_level}
 use Rattle.implicit_tileset.specs.Scene.{scene_of}
+use Rattle.scene_ports.specs.Counts.{more_by}
+use Rattle.walk_laws.specs.Pairs.{pairs_above}
 use Rattle.tile_word.specs.Roots.{AreRoots}
 use Rattle.tile_word.specs.Answers.{AreFound}
 use Rattle.reference_walk.proofs.Frontier.{IsAt}
@@ -13,5 +15,8 @@ invariant-loop-level g l = record {
   roots_are : AreRoots l.fn.layout (root_level l.fn.layout l.level) l.roots.items;
   found : AreFound l.fn.layout.scheme l.words.items;
   later : g.S.FileSource.faults l.fn.files ≤ g.S.FileSource.faults l.files;
+  sure : g.S.FileSource.faults l.files ≡ g.S.FileSource.faults l.fn.files;
+  fetched : IfSome (g.S.FileSource.told l.fn.files)
+      (λ all. g.S.FileSource.fetches l.files ≤ more_by (length (pairs_above (scene_of all l.fn.layout) l.fn.region l.level)) (g.S.FileSource.fetches l.fn.files));
   same : g.S.FileSource.told l.files ≡ g.S.FileSource.told l.fn.files;
 }
