@@ -1,5 +1,6 @@
 use Rattle.std.proofs.Common.{◌≡◌, ◌+◌, length, ◌++◌, ◌∷◌, [], ◌∙◌, map, take, take_all, get_or, refl, sym, ap, subst, arith, append-nil}
 use Rattle.std.specs.List.{flat_map}
+use Rattle.std.proofs.lemmas.Grind.{get_or_default_zero}
 use Rattle.implicit_tiling.specs.Code.{word_tile}
 use Rattle.implicit_tileset.specs.Scene.{scene_of}
 use Rattle.tile_coords.specs.declared.walk_end.WalkEnd.{WalkEnd}
@@ -31,7 +32,9 @@ loop-root-preserved g c =
     let layout = c.args.layout.now in
     let region = c.args.region.now in
     let pair = word_pair layout.scheme c.args.level in
-    let root = get_or c.args.roots.now c.loop-root.root-index 0 in
+    let root = c.root-item.result in
+    let at : root ≡ get_or c.args.roots.now c.loop-root.root-index 0 =
+    c.root-item.is ∙ get_or_default_zero c.args.roots.now c.loop-root.root-index c.root-item.result (omega arith) in
     record {
       walks = both_told (g.S.FileSource.told c.args.files.now)
           (λ all. GoesOn (scene_of all layout) region (map pair (take c.loop-root.root-index c.args.roots.now)) c.args.words.now.items c.loop-root.words.items)
@@ -39,7 +42,8 @@ loop-root-preserved g c =
           (λ all on is. let P : WalkEnd → Type 0 = Walks (scene_of all layout) region (map pair (take (c.loop-root.root-index + 1) c.args.roots.now)) c.args.words.now.items c.step.new.words.items in
           subst P c.in-Partial.is
           (one_root_more (scene_of all layout) region pair c.args.roots.now c.loop-root.root-index c.args.words.now.items c.loop-root.words.items c.step.new.words.items c.in_ok-end.end
-          (omega arith) on is)) c.loop-root.invariant.walks
+          (omega arith) on (subst (λ w. Walks (scene_of all layout) region (pair w ∷ []) c.loop-root.words.items c.step.new.words.items c.in_ok-end.end) at is)))
+          c.loop-root.invariant.walks
           (told_same (g.S.FileSource.told c.loop-root.files) (g.S.FileSource.told c.args.files.now) _ c.loop-root.invariant.same c.in_ok-end.ensures.walks);
       roots_on = both_told (g.S.FileSource.told c.args.files.now)
           (λ all. map (word_tile layout.scheme) c.loop-root.next.items ≡ map (word_tile layout.scheme) c.args.next.now.items
@@ -47,7 +51,9 @@ loop-root-preserved g c =
           (λ all. c.in_ok-end.end ≡ Partial → map (word_tile layout.scheme) c.step.new.next.items ≡ map (word_tile layout.scheme) c.loop-root.next.items
           ++ next_roots (scene_of all layout) region c.args.level (word_tile layout.scheme root)) _
           (λ all on more. one_next_more (word_tile layout.scheme) (λ w. next_roots (scene_of all layout) region c.args.level (word_tile layout.scheme w)) c.args.roots.now
-          c.args.next.now.items c.loop-root.next.items c.step.new.next.items c.loop-root.root-index (omega arith) on (more c.in-Partial.is)) c.loop-root.invariant.roots_on
+          c.args.next.now.items c.loop-root.next.items c.step.new.next.items c.loop-root.root-index (omega arith) on
+          (subst (λ w. map (word_tile layout.scheme) c.step.new.next.items ≡ map (word_tile layout.scheme) c.loop-root.next.items
+          ++ next_roots (scene_of all layout) region c.args.level (word_tile layout.scheme w)) at (more c.in-Partial.is))) c.loop-root.invariant.roots_on
           (told_same (g.S.FileSource.told c.loop-root.files) (g.S.FileSource.told c.args.files.now) _ c.loop-root.invariant.same c.in_ok-end.ensures.roots);
       found = c.in_ok-end.ensures.found;
       next = c.in_ok-end.ensures.next;
@@ -62,12 +68,15 @@ returns-in_default-clause-walks g c =
     let layout = c.args.layout.now in
     let region = c.args.region.now in
     let pair = word_pair layout.scheme c.args.level in
-    let root = get_or c.args.roots.now c.loop-root.root-index 0 in
+    let root = c.root-item.result in
+    let at : root ≡ get_or c.args.roots.now c.loop-root.root-index 0 =
+    c.root-item.is ∙ get_or_default_zero c.args.roots.now c.loop-root.root-index c.root-item.result (omega arith) in
     both_told (g.S.FileSource.told c.args.files.now)
     (λ all. GoesOn (scene_of all layout) region (map pair (take c.loop-root.root-index c.args.roots.now)) c.args.words.now.items c.loop-root.words.items)
     (λ all. Walks (scene_of all layout) region (pair root ∷ []) c.loop-root.words.items c.step.new.words.items c.in_ok-end.end) _
     (λ all on is. ends_in_level (scene_of all layout) region pair c.args.roots.now c.loop-root.root-index c.args.words.now.items c.loop-root.words.items c.step.new.words.items
-    c.in_ok-end.end (omega arith) c.in_default.not-Partial on is) c.loop-root.invariant.walks
+    c.in_ok-end.end (omega arith) c.in_default.not-Partial on
+    (subst (λ w. Walks (scene_of all layout) region (pair w ∷ []) c.loop-root.words.items c.step.new.words.items c.in_ok-end.end) at is)) c.loop-root.invariant.walks
     (told_same (g.S.FileSource.told c.loop-root.files) (g.S.FileSource.told c.args.files.now) _ c.loop-root.invariant.same c.in_ok-end.ensures.walks)
 
 pub returns-in_default-clause-fetched : goal.returns-in_default-clause-fetched
