@@ -1,0 +1,7 @@
+mod Cutting
+mod Headers
+mod Laying
+mod Rows
+mod Served
+mod Statuses
+mod Valued
