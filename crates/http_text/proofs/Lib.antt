@@ -4,4 +4,5 @@ mod Laying
 mod Rows
 mod Served
 mod Statuses
+mod Staying
 mod Valued

@@ -5,6 +5,7 @@
 
 mod cuts;
 mod heads;
+pub mod laws;
 mod query;
 mod replies;
 mod routes;
@@ -14,3 +15,6 @@ pub use heads::{HeadAnswer, HeadParts, MOST_HEAD_BYTES, MOST_HEADER_LINES, head}
 pub use replies::reply_head;
 pub use routes::Route;
 pub use targets::route;
+
+#[cfg(test)]
+mod tests;
