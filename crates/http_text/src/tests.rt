@@ -50,7 +50,7 @@ fn heads(rt: HostRuntime) -> Result<(), Fail> {
             b"GET http://localhost/tiles HTTP/1.1\r\n\r\n",
             "39 get http://localhost/tiles",
         ),
-        (b"GET /%2%zz%?%41+ HTTP/1.1\r\n\r\n", "30 get /%2%zz%?%41+"),
+        (b"GET /%2%zz%?%41+ HTTP/1.1\r\n\r\n", "29 get /%2%zz%?%41+"),
         (b"get / HTTP/1.1\r\n\r\n", "18 /"),
         (b"HEAD / HTTP/1.1\r\n\r\n", "19 /"),
         (b"POST / HTTP/1.1\r\ncontent-length: 0\r\n\r\n", "38 /"),
