@@ -1,5 +1,5 @@
 -- The line of a query of the right form isn't empty.
-use Rattle.std.proofs.Common.{◌≡◌, ℕ, List, [], ◌∷◌, ◌++◌, length, length-append, refl, sym, ap, ◌∙◌, arith}
+use Rattle.std.proofs.Common.{◌≡◌, ℕ, List, [], ◌∷◌, length, length-append, refl, sym, ap, ◌∙◌, arith}
 use Rattle.std.specs.List.{join_with_byte}
 use Rattle.http_text.specs.declared.routes.Route.{Route}
 use Rattle.http_text.specs.declared.routes.Route.TheVariants.{Tiles, Prefix, NotFound}

@@ -1,15 +1,13 @@
 -- Heads, and bytes with which none begins, stay whatever follows.
-use Rattle.std.proofs.Common.{◌≡◌, ℕ, ◌-◌, ◌<◌, ◌≤◌, List, [], ◌++◌, length, take, drop, refl, sym, ap, ◌∙◌, subst, append_assoc, append-nil, length-append, length-drop, inl, inr, ◌⊎◌, arith}
+use Rattle.std.proofs.Common.{◌≡◌, ℕ, ◌-◌, ◌≤◌, List, [], ◌++◌, length, take, drop, refl, sym, ap, ◌∙◌, subst, append_assoc, append-nil, length-append, length-drop, inl, inr, ◌⊎◌, arith}
 use Rattle.std.specs.Prelude.{slice_range}
 use Rattle.std.proofs.lemmas.List.{drop-append-le, take-append-le}
-use Rattle.httparse.specs.Grammar.{RequestHead, ReadsRequest, HasNoRequest, NeverHasRequest}
+use Rattle.httparse.specs.Grammar.{ReadsRequest, NeverHasRequest}
 use Rattle.httparse.specs.Spans.{RequestOverflows, RequestExceeds}
 use Rattle.httparse.proofs.GrammarLemmas.{request_unique, ReadsRequest-append}
-use Rattle.http_text.specs.declared.heads.HeadParts.{HeadParts}
-use Rattle.http_text.specs.declared.heads.HeadAnswer.{HeadAnswer}
 use Rattle.http_text.specs.declared.heads.HeadAnswer.TheVariants.{Whole, More, Bad}
 use Rattle.http_text.specs.Limits.{most_header_lines}
-use Rattle.http_text.specs.Heads.{IsHead, IsNoHead}
+use Rattle.http_text.specs.Heads.{IsHead}
 use Rattle.http_text.specs.Laws.{HeadsAreOne, HeadsStay, NoHeadsStay, EmptyLineIsRefused}
 
 -- a part of a text stays the part of what is longer

@@ -1,10 +1,10 @@
 -- Values that are found part by part.
 use Rattle.std.proofs.Common.{◌≡◌, ℕ, ◌<◌, ◌≤◌, List, [], ◌∷◌, ◌++◌, length, refl, sym, ap, ◌∙◌, append_assoc, arith}
-use Rattle.std.specs.Prelude.{Option, Some, None, ◌==◌, option_to_list, option_map, MatchOption}
+use Rattle.std.specs.Prelude.{Option, Some, None, ◌==◌, option_to_list, option_map}
 use Rattle.std.specs.List.{position_or_len, before_first, after_first, filter_map, cons_option}
 use denote.Ref.{Bor}
 use Rattle.http_text.specs.Inner.{found_in}
-use Rattle.http_text.specs.Targets.{behind, values, only, parts_of}
+use Rattle.http_text.specs.Targets.{behind, values, only}
 use Rattle.http_text.proofs.Cutting.{parts_more, last_part}
 
 first_of : {X : Type 0} (o : Option X) (xs : List X) → cons_option o xs ≡ option_to_list o ++ xs

@@ -1,9 +1,12 @@
--- What bytes from a connection are: a whole head of a request, with what is looked at of it, the beginning of one, or bytes
--- with which no head begins (RFC 9112, sections 2 to 5, as `httparse` reads heads; what is looked at is this project's own).
-use Rattle.std.specs.Prelude.{ℕ, ◌≡◌, ◌≤◌, ◌==◌, ◌&&◌, ◌||◌, ◌⊎◌, not, Bool, List, map, length, drop, slice_range, codes}
+-- What bytes from a connection are: a whole head of a request, with what is looked at of it, the beginning of one, or
+-- bytes with which no head begins (RFC 9112, sections 2 to 5, as `httparse` reads heads; what is looked at is this
+-- project's own).
+use Rattle.std.specs.Prelude.{ℕ, ◌≡◌, ◌≤◌, ◌==◌, ◌&&◌, ◌||◌, ◌⊎◌, not, Bool, List, map, length, drop}
+use Rattle.std.specs.Prelude.{slice_range, codes}
 use Rattle.std.specs.List.{list_any}
 use Rattle.std.specs.Str.{bytes_eq, str_eq_ignore_ascii_case}
-use Rattle.httparse.specs.Grammar.{RequestHead, print_request, ReadsRequest, HasNoRequest, NeverHasRequest, MayBecomeRequest}
+use Rattle.httparse.specs.Grammar.{RequestHead, print_request, ReadsRequest}
+use Rattle.httparse.specs.Grammar.{HasNoRequest, NeverHasRequest, MayBecomeRequest}
 use Rattle.httparse.specs.Spans.{name_and_value, RequestOverflows, RequestExceeds}
 use Rattle.http_text.specs.declared.heads.HeadParts.{HeadParts}
 use Rattle.http_text.specs.declared.heads.HeadAnswer.{HeadAnswer}
@@ -43,10 +46,11 @@ pub record IsHead (bytes : List ℕ) (p : HeadParts) (h : RequestHead) : Type 0 
   pub body : p.body ≡ list_any announces_body (headers_of h)
   pub close : p.close ≡ list_any asks_to_close (headers_of h)
 
--- no bytes can follow that make a head of at most the limit's header lines: none that make a head at all, or there are more
--- header lines than that already
+-- no bytes can follow that make a head of at most the limit's header lines: none that make a head at all, or there are
+-- more header lines than that already
 abbrev pub IsNoHead : List ℕ → Type 0
-IsNoHead bytes = RequestOverflows most_header_lines bytes × (NeverHasRequest bytes ⊎ RequestExceeds most_header_lines bytes)
+IsNoHead bytes = RequestOverflows most_header_lines bytes
+    × (NeverHasRequest bytes ⊎ RequestExceeds most_header_lines bytes)
 
 -- what the answer says of the bytes
 abbrev pub IsAnswer : List ℕ → HeadAnswer → Type 0

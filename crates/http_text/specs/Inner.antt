@@ -1,5 +1,6 @@
--- For proofs and inner functions: a text that is cut once, values that are found one after another, and the pieces of a head.
-use Rattle.std.specs.Prelude.{ℕ, ◌≡◌, ◌<◌, ◌≤◌, ◌==◌, Bool, List, [], ◌∷◌, ◌++◌, length, codes, Option, Some, None, option_to_list, option_map}
+-- For proofs and inner functions: a text that is cut once, values found one after another, and the pieces of a head.
+use Rattle.std.specs.Prelude.{ℕ, ◌≡◌, ◌<◌, ◌≤◌, ◌==◌, Bool, List, [], ◌∷◌, ◌++◌, length, codes}
+use Rattle.std.specs.Prelude.{Option, Some, None, option_to_list, option_map}
 use Rattle.std.specs.List.{position_or_len, before_first, after_first, flat_map, join_with_byte}
 use denote.Ref.{Bor}
 use Rattle.percent_encoding.specs.Percent.{percent_decode}
@@ -23,14 +24,15 @@ IsOneOf first second None = length (found_in first ++ found_in second) ≡ 2
 
 -- the line of the three values
 abbrev pub line_of_values : Values → List ℕ
-line_of_values v = join_with_byte 32 (percent_decode v.level.now ∷ percent_decode v.lo.now ∷ percent_decode v.hi.now ∷ [])
+line_of_values v =
+    join_with_byte 32 (percent_decode v.level.now ∷ percent_decode v.lo.now ∷ percent_decode v.hi.now ∷ [])
 
 -- what `http` writes for a status without a reason
 abbrev pub unknown : List ℕ
 unknown = codes "<unknown status code>"
 
--- the end of the first line of a reply with the lines that say what is allowed, and the end of the line of the length with
--- the rest
+-- the end of the first line of a reply with the lines that say what is allowed, and the end of the line of the length
+-- with the rest
 abbrev pub allow_part : ℕ → List ℕ
 allow_part status = head_line [] ++ flat_map head_line (allow_lines status)
 

@@ -1,4 +1,4 @@
--- What follows from the definitions alone, for who takes the bytes of a connection piece by piece (this project's own).
+-- What follows from the definitions alone, for who takes a connection's bytes piece by piece (this project's own).
 use Rattle.std.specs.Prelude.{ℕ, ◌≡◌, ◌++◌, List, [], Err}
 use Rattle.httparse.specs.Grammar.{RequestHead}
 use Rattle.implicit_tiling.specs.declared.Scheme.{Scheme}

@@ -26,7 +26,8 @@ connection_line close = if close then codes "Connection: close" else codes "Conn
 -- the lines of the head: the version with the status and its reason, and the headers
 abbrev pub reply_lines : ℕ → ℕ → Bool → List (List ℕ)
 reply_lines status length close = (codes "HTTP/1.1 " ++ status_text status) ∷ allow_lines status
-    ++ (codes "Content-Type: text/plain; charset=utf-8" ∷ (codes "Content-Length: " ++ decimal length) ∷ connection_line close ∷ [])
+    ++ (codes "Content-Type: text/plain; charset=utf-8" ∷ (codes "Content-Length: " ++ decimal length)
+    ∷ connection_line close ∷ [])
 
 -- the head: its lines, and an empty one
 abbrev pub reply_head : ℕ → ℕ → Bool → List ℕ

@@ -1,6 +1,7 @@
--- What the target of a request asks for: its path, and the request line of its query (this project's own; escapes by the URL
--- Standard, section 1.3).
-use Rattle.std.specs.Prelude.{ℕ, ◌==◌, Bool, List, [], ◌∷◌, length, take, drop, codes, Option, Some, None, is_some, if◌then◌else◌}
+-- What the target of a request asks for: its path, and the request line of its query (this project's own; escapes by
+-- the URL Standard, section 1.3).
+use Rattle.std.specs.Prelude.{ℕ, ◌==◌, Bool, List, [], ◌∷◌, length, take, drop, codes, Option, Some, None, is_some}
+use Rattle.std.specs.Prelude.{if◌then◌else◌}
 use Rattle.std.specs.List.{list_all, list_any, filter_map, slice_split, before_first, after_first, join_with_byte}
 use Rattle.std.specs.Str.{bytes_eq}
 use Rattle.percent_encoding.specs.Percent.{percent_decode}
@@ -16,7 +17,8 @@ abbrev pub query_of : List ℕ → List ℕ
 query_of target = after_first (λ c. c == 63) target
 
 abbrev pub route_of_path : List ℕ → Route
-route_of_path path = if bytes_eq path (codes "/tiles") then Tiles else (if bytes_eq path (codes "/prefix") then Prefix else NotFound)
+route_of_path path = if bytes_eq path (codes "/tiles") then Tiles else (
+    if bytes_eq path (codes "/prefix") then Prefix else NotFound)
 
 -- the parts of a query, between its `&`
 abbrev pub parts_of : List ℕ → List (List ℕ)
@@ -46,14 +48,16 @@ only (value ∷ other ∷ others) = None
 
 -- the three values decoded and joined by single spaces; the empty line where one is missing
 abbrev pub joined : Option (List ℕ) → Option (List ℕ) → Option (List ℕ) → List ℕ
-joined (Some level) (Some lo) (Some hi) = join_with_byte 32 (percent_decode level ∷ percent_decode lo ∷ percent_decode hi ∷ [])
+joined (Some level) (Some lo) (Some hi) =
+    join_with_byte 32 (percent_decode level ∷ percent_decode lo ∷ percent_decode hi ∷ [])
 joined level lo hi = []
 
--- the request line of a query: each of the names stands just once and no part has another, in any order; the empty line
--- where the query has another form
+-- the request line of a query: each of the names stands just once and no part has another, in any order; the empty
+-- line where the query has another form
 abbrev pub line_of_query : List ℕ → List ℕ
 line_of_query query = if list_all is_parameter (parts_of query)
-    then joined (only (values (codes "level=") query)) (only (values (codes "lo=") query)) (only (values (codes "hi=") query))
+    then joined (only (values (codes "level=") query)) (only (values (codes "lo=") query))
+    (only (values (codes "hi=") query))
     else []
 
 -- what a target asks for

@@ -44,8 +44,9 @@ pub enum HeadAnswer {
     Bad,
 }
 
-/// What the bytes are the beginning of, by `httparse` with room for `MOST_HEADER_LINES` headers (RFC 9112, sections 2 to 5:
-/// a line may end in LF alone, and empty lines may come first). A target that isn't UTF-8 is `Bad` once it has ended.
+/// What the bytes are the beginning of, by `httparse` with room for `MOST_HEADER_LINES` headers (RFC 9112, sections
+/// 2 to 5: a line may end in LF alone, and empty lines may come first). A target that isn't UTF-8 is `Bad` once it has
+/// ended.
 pub fn head(bytes: &[u8]) -> HeadAnswer
     ensures answer { IsAnswer bytes.now result }
     ensures found { FindsHead bytes.now result }

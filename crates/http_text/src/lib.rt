@@ -1,6 +1,6 @@
-//! The texts of HTTP as `serve` speaks it: heads of requests, what a target asks for, and heads of replies. It knows no
-//! connection. Each answer is exact: what the bytes are by the grammar that `httparse` is proved against, the route and the
-//! request line of the target, and the bytes of the reply's head.
+//! The texts of HTTP: heads of requests, what a target asks for, and heads of replies. It knows no connection. Each
+//! answer is exact: what the bytes are by the grammar that `httparse` is proved against, the route and the request
+//! line of the target, and the bytes of the reply's head.
 #![tactic(auto)]
 
 mod cuts;

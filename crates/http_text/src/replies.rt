@@ -1,5 +1,6 @@
 // Heads of replies.
-ghost use Rattle.std.specs.Prelude.{◌≡◌, ◌++◌, OnOk, OnErr, map, unwrap_or};
+ghost use Rattle.std.specs.Prelude.{◌≡◌, ◌<◌, ◌+◌, ◌++◌, OnOk, OnErr, map, length as length_of, unwrap_or};
+ghost use Rattle.std.specs.Prelude.{vec_len, vec_capacity};
 ghost use Rattle.std.specs.List.{concat};
 ghost use Rattle.http.specs.StatusCode.{reason_phrase};
 ghost use Rattle.http_text.specs.Inner.{allow_part, connection_part, unknown};
@@ -9,9 +10,9 @@ use http::StatusCode;
 use itoa::Buffer;
 use std::alloc::AllocError;
 
-/// Appends the head of a reply (RFC 9112, section 4): the status with the reason that `http` has for it, `Allow: GET` with
-/// 405, the type of the body, its `length` in bytes, and whether the connection stays; then an empty line. An `Err`
-/// leaves `out` as it was.
+/// Appends the head of a reply (RFC 9112, section 4): the status with the reason that `http` has for it, `Allow: GET`
+/// with 405, the type of the body, its `length` in bytes, and whether the connection stays; then an empty line. An
+/// `Err` leaves `out` as it was, and comes only where `out` had no room for the head.
 pub fn reply_head(
     status: u16,
     length: u64,
@@ -21,6 +22,7 @@ pub fn reply_head(
     requires { IsReplyStatus status }
     ensures head { OnOk result (out.new.items ≡ out.old.items ++ head_of status length close) }
     ensures unchanged { OnErr result (out.new.items ≡ out.old.items) }
+    ensures room { OnErr result (vec_capacity out.old < vec_len out.old + length_of (head_of status length close)) }
 {
     let (mut code, mut digits) = (Buffer::new(), Buffer::new());
     let pieces: [&[u8]; 8] = [
@@ -74,6 +76,8 @@ fn connection(close: bool) -> &'static [u8]
 fn append_all(pieces: &[&[u8]], out: &mut Vec<u8>) -> Result<(), AllocError>
     ensures all { OnOk result (out.new.items ≡ out.old.items ++ concat (map (λ piece. piece.now) pieces.now)) }
     ensures unchanged { OnErr result (out.new.items ≡ out.old.items) }
+    ensures room { OnErr result (vec_capacity out.old < vec_len out.old
+        + length_of (concat (map (λ piece. piece.now) pieces.now))) }
 {
     let start = out.len();
     for piece in pieces {

@@ -1,4 +1,4 @@
-use Rattle.std.proofs.Common.{◌≡◌, refl}
+use Rattle.std.proofs.Common.{refl}
 use Rattle.http_text.proofs.Valued.{found_more, found_twice, found_last, last_twice}
 use Rattle.http_text.proofs.query.only_value.Goals as goal
 
