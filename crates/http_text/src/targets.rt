@@ -10,8 +10,8 @@ use std::alloc::AllocError;
 
 /// What a target asks for (this project's own). It is cut at its first `?`. Before that is the path, compared byte by
 /// byte. Where it is served, the request line is appended to `line`: LEVEL LO HI, of a query in which each of
-/// `level=`, `lo=` and `hi=` stands once, in any order, between `&`, with values whose escapes are decoded; or the empty line,
-/// which is refused, where the query has another form. An `Err` leaves `line` as it was.
+/// `level=`, `lo=` and `hi=` stands once, in any order, between `&`, with values whose escapes are decoded; or the
+/// empty line, which is refused, where the query has another form. An `Err` leaves `line` as it was.
 pub fn route(target: &[u8], line: &mut Vec<u8>) -> Result<Route, AllocError>
     ensures route { IfOk result (λ route. route ≡ route_in target.now) }
     ensures line { OnOk result (line.new.items ≡ line.old.items ++ line_in target.now) }
