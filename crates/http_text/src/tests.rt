@@ -113,7 +113,7 @@ fn lines(alloc: Global, count: usize) -> Result<Vec<u8>, AllocError> {
 // A head of so many bytes, up to its last line, with one header line.
 fn long(alloc: Global, bytes: usize) -> Result<Vec<u8>, AllocError> {
     let mut head = Vec::from_slice(alloc, b"GET / HTTP/1.1\r\na:")?;
-    while head.len() + 2 < bytes {
+    for _ in 20..bytes {
         head.push(b'b')?;
     }
     head.extend_from_slice(b"\r\n")?;
