@@ -111,11 +111,11 @@ fn have_words(scheme: Scheme, found: &[FoundFault]) -> bool
         .all(|fault| tile_of(scheme, fault.root).is_some())
 }
 
-fn ends_at_root(scheme: Scheme, end: WalkEnd) -> bool
-    ensures { IsTrue result → EndsAtRoot scheme end }
+fn ends_at_root(scheme: Scheme, end: &WalkEnd) -> bool
+    ensures { IsTrue result → EndsAtRoot scheme end.now }
 {
     match end {
-        WalkEnd::Fault { root, .. } => match tile_of(scheme, root) {
+        WalkEnd::Fault { root, .. } => match tile_of(scheme, *root) {
             Some(found) => found.mask == 0,
             None => false,
         },
@@ -134,23 +134,23 @@ fn answer_to(
     alloc: Global,
     layout: &Layout,
     words: &[Word],
-    end: WalkEnd,
+    end: &WalkEnd,
     link: &mut MemoryLink,
 ) -> Option<Result<(), GiveFault>> {
     if !are_words(layout.scheme, words) || !ends_at_root(layout.scheme, end) {
         return None;
     }
-    Some(write_answer(alloc, layout, words, end, link))
+    Some(write_answer(alloc, layout, words, *end, link))
 }
 
-fn length_of(layout: &Layout, words: &[Word], end: WalkEnd) -> Option<u64> {
+fn length_of(layout: &Layout, words: &[Word], end: &WalkEnd) -> Option<u64> {
     if !are_words(layout.scheme, words)
         || !ends_at_root(layout.scheme, end)
         || words.len() > 65536
     {
         return None;
     }
-    Some(answer_length(layout, words, end))
+    Some(answer_length(layout, words, *end))
 }
 
 fn check_to(
@@ -166,6 +166,14 @@ fn check_to(
     Some(write_check(alloc, scheme, found, end, link))
 }
 
+// A walk that ends at the tile (1, 1, 1), or (1, 1, 1, 0).
+fn fault_16() -> WalkEnd {
+    WalkEnd::Fault {
+        root: word_at(1, 3, 0),
+        number: 16,
+    }
+}
+
 #[test]
 fn texts_of_answers(rt: HostRuntime) -> Result<(), Fail> {
     let alloc = rt.alloc();
@@ -178,10 +186,6 @@ fn texts_of_answers(rt: HostRuntime) -> Result<(), Fail> {
         word_at(2, 7, 2),
         word_at(2, 7, 3),
     ];
-    let fault = WalkEnd::Fault {
-        root: word_at(1, 3, 0),
-        number: 16,
-    };
     let rows: [(&Layout, WalkEnd, &str); 5] = [
         (
             &quadtree,
@@ -195,7 +199,7 @@ fn texts_of_answers(rt: HostRuntime) -> Result<(), Fail> {
         ),
         (
             &quadtree,
-            fault,
+            fault_16(),
             "0\t0\t0\n2\t3\t1\ta2.3.1\n2\t3\t1\t{z}b\n2\t3\t1\ta2.3.1\t{z}b\nend\tfault\t4\t16\t1\t1\t1\n",
         ),
         (
@@ -205,14 +209,14 @@ fn texts_of_answers(rt: HostRuntime) -> Result<(), Fail> {
         ),
         (
             &octree,
-            fault,
+            fault_16(),
             "0\t0\t0\t0\n2\t1\t1\t1\ta2.1.1\n2\t1\t1\t1\t1b\n2\t1\t1\t1\ta2.1.1\t1b\nend\tfault\t4\t16\t1\t1\t1\t0\n",
         ),
     ];
     for (layout, end, wanted) in rows {
         let mut link = link(alloc, &[])?;
-        assert!(rt; answer_to(alloc, layout, &words, end, &mut link) == Some(Ok(())));
-        assert!(rt; length_of(layout, &words, end) == Some(wanted.len() as u64));
+        assert!(rt; answer_to(alloc, layout, &words, &end, &mut link) == Some(Ok(())));
+        assert!(rt; length_of(layout, &words, &end) == Some(wanted.len() as u64));
         assert!(rt; link.written() == wanted.as_bytes());
     }
     Ok(())
@@ -299,8 +303,8 @@ fn an_outlet_that_fails_has_a_front(rt: HostRuntime) -> Result<(), Fail> {
     let words = Vec::from_elem(alloc, word_at(2, 7, 0), 6000)?;
     let mut whole = link(alloc, &[])?;
     let mut front = link(alloc, &[2])?;
-    assert!(rt; answer_to(alloc, &quadtree, &words, WalkEnd::Complete, &mut whole) == Some(Ok(())));
-    let failed = answer_to(alloc, &quadtree, &words, WalkEnd::Complete, &mut front);
+    assert!(rt; answer_to(alloc, &quadtree, &words, &WalkEnd::Complete, &mut whole) == Some(Ok(())));
+    let failed = answer_to(alloc, &quadtree, &words, &WalkEnd::Complete, &mut front);
     assert!(rt; failed == Some(Err(GiveFault::WriteFault)));
     assert!(rt; whole.written().starts_with(front.written()));
     assert!(rt; front.written().len() == 32772 && whole.written().len() == 36018);
