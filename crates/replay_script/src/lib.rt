@@ -1,5 +1,6 @@
-//! The replay script: what each line of an input asks of viewers that share frames, and the text of each reply. A line is
-//! read to exactly one event, and a reply is given as exactly one text. The crate knows no walk, no frames and no files.
+//! The replay script: what each line of an input asks of viewers that share frames, and the text of each reply. A line
+//! is read to exactly one event, and a reply is given as exactly one text. The crate knows no walk, no frames and no
+//! files.
 #![tactic(auto)]
 
 mod event;

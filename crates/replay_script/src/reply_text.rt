@@ -5,7 +5,8 @@ ghost use Rattle.implicit_tiling.specs.Code.{IsWord};
 ghost use Rattle.implicit_tiling.specs.Text.{word_line};
 ghost use Rattle.scene_ports.specs.Counts.{Rose};
 ghost use Rattle.scene_ports.specs.Output.{GivesFront, GivesAllBut};
-ghost use Rattle.replay_script.specs.Replies.{first_line, numbered_line, page_line, reply_text, reply_words, state_text};
+ghost use Rattle.replay_script.specs.Replies.{first_line, numbered_line, page_line, state_text};
+ghost use Rattle.replay_script.specs.Replies.{reply_text, reply_words};
 
 use crate::reply::Reply;
 use request_text::{push_field, push_word_line};

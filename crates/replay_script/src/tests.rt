@@ -13,7 +13,8 @@ use tileset_json::Layout;
 
 // Three levels, in subtrees of two, without contents.
 const TILESET: &str =
-    "{\"root\":{\"implicitTiling\":{\"subdivisionScheme\":\"QUADTREE\",\"subtreeLevels\":2,\"availableLevels\":3,\"subtrees\":{\"uri\":\"all.subtree\"}}}}";
+    "{\"root\":{\"implicitTiling\":{\"subdivisionScheme\":\"QUADTREE\",\"subtreeLevels\":2,\
+    \"availableLevels\":3,\"subtrees\":{\"uri\":\"all.subtree\"}}}}";
 
 #[test]
 fn lines_are_events_or_bad(rt: HostRuntime) -> Result<(), Fail> {
