@@ -5,7 +5,7 @@ ghost use Rattle.implicit_tiling.specs.Code.{IsWord};
 
 use crate::{Event, MOST_PAGE, Reply, next_event, read_event, write_reply};
 use scene_ports::{GiveFault, MemoryLink, give_rest};
-use std::alloc::Global;
+use std::alloc::{AllocError, Global};
 use std::test::Fail;
 use tile_coords::{Scheme, WalkEnd, Word};
 use tile_word::{tile_of, word_at};
@@ -100,30 +100,43 @@ fn an_input_is_cut_into_lines(rt: HostRuntime) -> Result<(), Fail> {
     let layout = Layout::read(rt.alloc(), TILESET.as_bytes())
         .ok()
         .expect(&rt, "a layout");
-    let one = Event::Claim { pass: 1 };
-    let rows: [(&str, [Event<()>; 3], usize); 7] = [
-        ("", [Event::Bad; 3], 0),
-        ("\n\r\n\r", [Event::Bad; 3], 3),
-        ("claim 1", [one; 3], 1),
-        ("claim 1\r", [one; 3], 1),
-        ("claim 1\r\nclaim 1\nclaim 1\r\n", [one; 3], 3),
-        ("claim 1\nclaim 1\r\r\n", [one, Event::Bad, Event::Bad], 2),
-        (
-            "attach 2 \r\n\nclaim 1",
-            [refused(2, 1), Event::Bad, one],
-            3,
-        ),
+    // c for `claim 1`, r for a refused line of pass 2, and - for a bad line.
+    let rows: [(&str, &str); 7] = [
+        ("", ""),
+        ("\n\r\n\r", "---"),
+        ("claim 1", "c"),
+        ("claim 1\r", "c"),
+        ("claim 1\r\nclaim 1\nclaim 1\r\n", "ccc"),
+        ("claim 1\nclaim 1\r\r\n", "c-"),
+        ("attach 2 \r\n\nclaim 1", "r-c"),
     ];
-    for (input, events, count) in rows {
-        let mut rest = input.as_bytes();
-        for event in events.iter().take(count) {
-            let (found, behind) = next_event(&layout, rest).expect(&rt, "an event");
-            assert!(rt; found == *event);
-            rest = behind;
-        }
-        assert!(rt; next_event(&layout, rest).is_none());
+    for (input, letters) in rows {
+        let read = letters_of(rt.alloc(), &layout, input.as_bytes())?;
+        assert!(rt; read.as_slice() == letters.as_bytes());
     }
     Ok(())
+}
+
+fn letters_of(alloc: Global, layout: &Layout, input: &[u8]) -> Result<Vec<u8>, AllocError> {
+    let mut letters = Vec::new(alloc);
+    let mut rest = input;
+    while let Some((event, behind)) = next_event(layout, rest) {
+        letters.push(letter_of(event))?;
+        rest = behind;
+    }
+    Ok(letters)
+}
+
+fn letter_of(event: Event<()>) -> u8 {
+    match event {
+        Event::Claim { pass: 1 } => b'c',
+        Event::Attach {
+            pass: 2,
+            asked: Err(1),
+        } => b'r',
+        Event::Bad => b'-',
+        _ => b'?',
+    }
 }
 
 fn are_words(scheme: Scheme, words: &[Word]) -> bool
