@@ -29,7 +29,7 @@ passed : {X : Type 0} (b : Bool) (found : Option X) → is_some (cond b found No
 passed true found is = (refl, is)
 passed false found is = absurd (false≢true is)
 
-of_number : (text : List ℕ) → is_some (number text) ≡ true → HasNoSpace text
+pub of_number : (text : List ℕ) → is_some (number text) ≡ true → HasNoSpace text
 of_number text is =
     let fits = nat_lt (digits_value 10 text) (2 ^ 32) in
     let tested = (passed (has_digits text && fits) (Some (digits_value 10 text)) is).0 in

@@ -58,8 +58,8 @@ pub(crate) fn push_number(number: u64, piece: &mut String) -> Result<(), AllocEr
     piece.push_str(digits.format(number))
 }
 
-// Appends a TAB and a number.
-pub(crate) fn push_field(number: u64, piece: &mut String) -> Result<(), AllocError>
+/// Appends a TAB and a number in decimal.
+pub fn push_field(number: u64, piece: &mut String) -> Result<(), AllocError>
     ensures { OnOk result (string_bytes piece.new ≡ string_bytes piece.old ++ after_tab (decimal number)) }
 {
     piece.push('\t')?;

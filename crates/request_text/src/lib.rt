@@ -5,6 +5,7 @@
 
 mod check_text;
 mod fields;
+mod input;
 pub mod laws;
 mod length;
 mod line;
@@ -12,10 +13,12 @@ mod made_text;
 mod text;
 
 pub use check_text::write_check;
+pub use fields::push_field;
+pub use input::next_line;
 pub use length::answer_length;
-pub use line::{Line, Refusal, is_coordinates, is_number, line_of, parse_line, read_number};
+pub use line::{Line, Refusal, cut, is_coordinates, is_number, line_of, parse_line, read_number};
 pub use made_text::{write_made, write_survey};
-pub use text::{write_answer, write_refusal};
+pub use text::{push_word_line, write_answer, write_refusal};
 
 #[cfg(test)]
 mod tests;

@@ -186,8 +186,8 @@ fn read_coordinates(text: &[u8]) -> Option<Coordinates>
     Some(Coordinates::Three(read_number(x)?, read_number(y)?, read_number(z)?))
 }
 
-// A text cut at its first separator.
-fn cut(text: &[u8], separator: u8) -> Option<(&[u8], &[u8])>
+/// What stands before and behind the first separator of a text. None where it has none.
+pub fn cut(text: &[u8], separator: u8) -> Option<(&[u8], &[u8])>
     ensures { IsSplitOnce separator text.now result }
 {
     let at = first_separator(text, separator)?;

@@ -303,7 +303,9 @@ fn an_outlet_that_fails_has_a_front(rt: HostRuntime) -> Result<(), Fail> {
     let words = Vec::from_elem(alloc, word_at(2, 7, 0), 6000)?;
     let mut whole = link(alloc, &[])?;
     let mut front = link(alloc, &[2])?;
-    assert!(rt; answer_to(alloc, &quadtree, &words, &WalkEnd::Complete, &mut whole) == Some(Ok(())));
+    assert!(rt;
+        answer_to(alloc, &quadtree, &words, &WalkEnd::Complete, &mut whole) == Some(Ok(()))
+    );
     let failed = answer_to(alloc, &quadtree, &words, &WalkEnd::Complete, &mut front);
     assert!(rt; failed == Some(Err(GiveFault::WriteFault)));
     assert!(rt; whole.written().starts_with(front.written()));

@@ -71,8 +71,8 @@ fn push_refusal(number: u64, piece: &mut String) -> Result<(), AllocError>
     piece.push('\n')
 }
 
-// Appends the line of a word.
-fn push_word_line(layout: &Layout, word: Word, piece: &mut String) -> Result<(), AllocError>
+/// Appends the line of a tile by its word, as it stands in an answer.
+pub fn push_word_line(layout: &Layout, word: Word, piece: &mut String) -> Result<(), AllocError>
     requires { IsWord layout.now.scheme word }
     ensures { OnOk result (string_bytes piece.new ≡ string_bytes piece.old ++ word_line layout.now word) }
 {

@@ -20,7 +20,7 @@ returns-in_err-give_when_full-clause-front g c =
 pub loop-fault-preserved : goal.loop-fault-preserved
 loop-fault-preserved g c = record {
   lines = line_given _ _ _ (found_line c.args.scheme) c.args.found.now c.loop-fault.fault-index c.fault-item.result _ _ _ (omega arith) c.loop-fault.invariant.lines
-    (c.in_ok-push_fault_line.ensures ∙ ap (λ f. string_bytes c.loop-fault.piece ++ found_line c.args.scheme f) c.fault-item.is)
+      (c.in_ok-push_fault_line.ensures ∙ ap (λ f. string_bytes c.loop-fault.piece ++ found_line c.args.scheme f) c.fault-item.is)
       c.in_ok-give_when_full.ensures.given;
   later = omega (arith, c.give_when_full.ensures.later, c.loop-fault.invariant.later);
   aside = c.give_when_full.ensures.aside ∙ c.loop-fault.invariant.aside;

@@ -20,7 +20,7 @@ returns-in_err-give_when_full-clause-front g c =
 pub loop-word-preserved : goal.loop-word-preserved
 loop-word-preserved g c = record {
   lines = line_given _ _ _ (word_line c.args.layout.now) c.args.words.now c.loop-word.word-index c.word-item.result _ _ _ (omega arith) c.loop-word.invariant.lines
-    (c.in_ok-push_word_line.ensures ∙ ap (λ w. string_bytes c.loop-word.piece ++ word_line c.args.layout.now w) c.word-item.is) c.in_ok-give_when_full.ensures.given;
+      (c.in_ok-push_word_line.ensures ∙ ap (λ w. string_bytes c.loop-word.piece ++ word_line c.args.layout.now w) c.word-item.is) c.in_ok-give_when_full.ensures.given;
   later = omega (arith, c.give_when_full.ensures.later, c.loop-word.invariant.later);
   aside = c.give_when_full.ensures.aside ∙ c.loop-word.invariant.aside;
 }
