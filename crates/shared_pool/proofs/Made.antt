@@ -58,6 +58,7 @@ module _ {K T : Type 0} where
           answer.0,
           answer.3,
           subst (fits tag.own answer.0) (sym same) (fit.framed.fitting f answer.0 answer.1 a answer.2 value),
+          (answer.1, a, answer.2, value, sym same),
           o ∙ (ap (with_pin n) (hit-pin key f answer.0 answer.1 a answer.2 value e) ∙ ap (λ (v : T). with_pin n (Some (let p : Pin K T = record { frame = f; key = answer.0; value = v } in p))) (sym same)),
         ),
       ),

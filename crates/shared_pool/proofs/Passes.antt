@@ -45,7 +45,7 @@ module _ {G K T : Type 0} (old new : Seat (PoolTag G) (Note K T) (Shared K T)) (
   }
 
   pub pass-hit : (eq : K → K → Bool) (fits : G → K → T → Type 0) (key : K) (f : ℕ) (copy : Arc T Global) → HasHit eq fits key old.tag old.note new.last new.gave new.note f copy → IsPass new lock number (Pinned f)
-  pass-hit eq fits key f copy h = let m = h.3.2.3 in
+  pass-hit eq fits key f copy h = let m = h.3.2.4 in
       with-note (Pinned f) was.alone.0 (ap (λ (n : Note K T). n.granted) m ∙ was.alone.1) (_, ap (λ (n : Note K T). n.pin) m, refl, ap (λ (n : Note K T). n.loading) m)
 
   pub pass-granted : (eq : K → K → Bool) (key : K) (f : ℕ) → HasGrant eq number key old.tag old.note new.last new.gave new.note f → IsPass new lock number (Loading f key)

@@ -51,12 +51,14 @@ module _ {G K T : Type 0} where
   abbrev pub Takes : PoolTag G → Option (Shared K T) → (Shared K T → Type 0) → Type 0
   Takes tag last P = (x : Shared K T) × (last ≡ Some x) × (length x.pool.census ≡ tag.frames) × P x
 
-  -- A hit of frame f: the pool answered so, and the note has the pin, with a value that fits the frame's key
+  -- A hit of frame f: the pool answered so, the frame was found with its key and this value, which fits the key, and
+  -- the note has this pin
   abbrev pub HasHit : (K → K → Bool) → (G → K → T → Type 0) → K → PoolTag G → Note K T → Option (Shared K T)
       → Option (Shared K T) → Note K T → ℕ → Arc T Global → Type 0
   HasHit eq fits key tag n last gave m f copy = Takes tag last (λ x.
       IsAskAnswer eq key x.pool (hit f) × Gives gave (after_ask key x.pool (hit f)) x.log
       × ((own : K) × (eq own key ≡ true) × fits tag.own own (arc_value copy)
+      × HasPin x.pool (record { frame = f; key = own; value = arc_value copy })
       × (m ≡ with_pin n (Some (record { frame = f; key = own; value = arc_value copy })))))
 
   -- A grant of frame f to the pass of a number: the pool answered so, the log has the entry, and the note loads the

@@ -3,6 +3,7 @@ use std::alloc::Global;
 use std::sync::Arc;
 
 /// The answer to a pass that pins the value of a key.
+#[derive(Drop)]
 pub enum Pinned<T: Drop> {
     /// The value, which the pass has pinned.
     Hit(Arc<T, Global>),

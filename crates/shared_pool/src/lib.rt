@@ -19,3 +19,6 @@ pub use note::{Grants, Load, Note, Pin};
 pub use pass::PoolPass;
 pub use rule::{PoolRule, Pooled};
 pub use shared::{PoolTag, Shared};
+
+#[cfg(test)]
+mod tests;

@@ -1,4 +1,4 @@
-use Rattle.std.proofs.Common.{◌≡◌, ◌∙◌, arith, take, take_all}
+use Rattle.std.proofs.Common.{◌≡◌, ◌++◌, ◌∙◌, ap, arith, take, take_all, string_bytes}
 use Rattle.implicit_tiling.specs.Text.{word_line}
 use Rattle.scene_ports.proofs.Giving.{all_but_front}
 use Rattle.replay_script.proofs.Written.{lines_front, line_given, line_front}
@@ -10,11 +10,13 @@ returns-in_err-push_word_line-clause-front g c =
 
 pub returns-in_err-give_when_full-clause-front : goal.returns-in_err-give_when_full-clause-front
 returns-in_err-give_when_full-clause-front g c =
-    line_front _ _ _ (word_line c.args.layout.now) c.args.words.now c.loop-word.word-index 0 _ _ _ (omega arith) c.loop-word.invariant.lines c.in_ok-push_word_line.ensures c.give_when_full.ensures.front
+    line_front _ _ _ (word_line c.args.layout.now) c.args.words.now c.loop-word.word-index c.word-item.result _ _ _ (omega arith) c.loop-word.invariant.lines
+    (c.in_ok-push_word_line.ensures ∙ ap (λ w. string_bytes c.loop-word.piece ++ word_line c.args.layout.now w) c.word-item.is) c.give_when_full.ensures.front
 
 pub loop-word-preserved : goal.loop-word-preserved
 loop-word-preserved g c = record {
-  lines = line_given _ _ _ (word_line c.args.layout.now) c.args.words.now c.loop-word.word-index 0 _ _ _ _ (omega arith) c.loop-word.invariant.lines c.in_ok-push_word_line.ensures c.in_ok-give_when_full.ensures.given;
+  lines = line_given _ _ _ (word_line c.args.layout.now) c.args.words.now c.loop-word.word-index c.word-item.result _ _ _ _ (omega arith) c.loop-word.invariant.lines
+      (c.in_ok-push_word_line.ensures ∙ ap (λ w. string_bytes c.loop-word.piece ++ word_line c.args.layout.now w) c.word-item.is) c.in_ok-give_when_full.ensures.given;
   later = omega (arith, c.give_when_full.ensures.later, c.loop-word.invariant.later);
   aside = c.give_when_full.ensures.aside ∙ c.loop-word.invariant.aside;
 }
