@@ -5,8 +5,8 @@ use native.Mathlib.Decide.{dec_le}
 use Rattle.std.proofs.lemmas.List.{length-replicate, get_or-replicate, get_or_past}
 use Rattle.published_prefix.specs.declared.head.EndKind.{EndKind}
 use Rattle.published_prefix.specs.declared.head.EndKind.TheVariants as kind
-use Rattle.published_prefix.specs.declared.walk_end.WalkEnd.{WalkEnd}
-use Rattle.published_prefix.specs.declared.walk_end.WalkEnd.TheVariants.{Partial, Complete, TooMany, Fault}
+use Rattle.tile_coords.specs.declared.walk_end.WalkEnd.{WalkEnd}
+use Rattle.tile_coords.specs.declared.walk_end.WalkEnd.TheVariants.{Partial, Complete, TooMany, Fault}
 use Rattle.published_prefix.specs.Heads.{kind_of, code, fault_high, fault_low, FitsFaultWord}
 use Rattle.published_prefix.specs.Prefixes.{halves_of}
 

@@ -3,8 +3,8 @@ use Rattle.std.specs.Prelude.{◌≡◌, ◌⊎◌, ℕ, ◌+◌, ◌*◌, ◌/�
 use Rattle.published_prefix.specs.declared.head.EndKind.{EndKind}
 use Rattle.published_prefix.specs.declared.head.EndKind.TheVariants as kind
 use Rattle.published_prefix.specs.declared.head.Head.{Head}
-use Rattle.published_prefix.specs.declared.walk_end.WalkEnd.{WalkEnd}
-use Rattle.published_prefix.specs.declared.walk_end.WalkEnd.TheVariants.{Partial, Complete, TooMany, Fault}
+use Rattle.tile_coords.specs.declared.walk_end.WalkEnd.{WalkEnd}
+use Rattle.tile_coords.specs.declared.walk_end.WalkEnd.TheVariants.{Partial, Complete, TooMany, Fault}
 
 -- what a head tells of an end
 abbrev pub kind_of : WalkEnd → EndKind

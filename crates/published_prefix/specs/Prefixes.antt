@@ -7,8 +7,8 @@ use mathlib.Core.Option.{some}
 use mathlib.Core.Option as maybe
 use lib.ListN.{get_elem?}
 use Rattle.atomic_table.specs.Table.{State, Me, Step, rest}
-use Rattle.published_prefix.specs.declared.walk_end.WalkEnd.{WalkEnd}
-use Rattle.published_prefix.specs.declared.walk_end.WalkEnd.TheVariants.{Partial, Fault}
+use Rattle.tile_coords.specs.declared.walk_end.WalkEnd.{WalkEnd}
+use Rattle.tile_coords.specs.declared.walk_end.WalkEnd.TheVariants.{Partial, Fault}
 use Rattle.published_prefix.specs.declared.view.Half.{Half}
 use Rattle.published_prefix.specs.declared.view.Turn.{Turn}
 use Rattle.published_prefix.specs.declared.view.Turn.TheVariants.{Idle, Claimed, At}

@@ -2,8 +2,8 @@
 use Rattle.std.specs.Prelude.{◌≡◌, ℕ, ◌*◌, ◌^◌, ◌<◌, ◌≤◌}
 use Rattle.std.proofs.Common.{refl, sym, subst, inl, inr, arith}
 use Rattle.std.proofs.Math.Nat.{eq-or-lt_of_le}
-use Rattle.published_prefix.specs.declared.walk_end.WalkEnd.{WalkEnd}
-use Rattle.published_prefix.specs.declared.walk_end.WalkEnd.TheVariants.{Partial, Complete}
+use Rattle.tile_coords.specs.declared.walk_end.WalkEnd.{WalkEnd}
+use Rattle.tile_coords.specs.declared.walk_end.WalkEnd.TheVariants.{Partial, Complete}
 use Rattle.published_prefix.specs.Heads.{FitsFaultWord}
 
 -- of a walk of which nothing is known but that it gives 21 tiles at most

@@ -3,8 +3,8 @@ use Rattle.std.specs.Prelude.{◌≡◌, ℕ, List, [], ◌∷◌, ◌++◌, Opt
 use Rattle.atomic_table.specs.Seated.{TableId}
 use Rattle.published_prefix.specs.Heads.{head}
 use Rattle.published_prefix.specs.declared.head.Head.{Head}
-use Rattle.published_prefix.specs.declared.walk_end.WalkEnd.{WalkEnd}
-use Rattle.published_prefix.specs.declared.walk_end.WalkEnd.TheVariants.{Partial}
+use Rattle.tile_coords.specs.declared.walk_end.WalkEnd.{WalkEnd}
+use Rattle.tile_coords.specs.declared.walk_end.WalkEnd.TheVariants.{Partial}
 use Rattle.published_prefix.specs.declared.view.Turn.{Turn}
 use Rattle.published_prefix.specs.declared.view.Turn.TheVariants.{Idle, Claimed, At}
 use Rattle.published_prefix.specs.declared.view.View.{View}

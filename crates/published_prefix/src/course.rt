@@ -1,11 +1,11 @@
 // What a user of a prefix states.
 ghost use Rattle.std.specs.Prelude.{ℕ, ◌^◌, ◌<◌};
 ghost use Rattle.published_prefix.specs.Heads.{FitsFaultWord};
-ghost use Rattle.published_prefix.specs.declared.walk_end.WalkEnd.{WalkEnd};
-ghost use Rattle.published_prefix.specs.declared.walk_end.WalkEnd.TheVariants.{Partial};
+ghost use Rattle.tile_coords.specs.declared.walk_end.WalkEnd.{WalkEnd};
+ghost use Rattle.tile_coords.specs.declared.walk_end.WalkEnd.TheVariants.{Partial};
 
-use crate::walk_end::WalkEnd;
 use std::marker::Brand;
+use tile_coords::WalkEnd;
 
 /// What is published: which word stands at each place, how many steps and words there may be and with which end, and
 /// which work goes on from there. The tag, which only contracts see, is fixed when a prefix is made. All of this are

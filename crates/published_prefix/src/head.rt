@@ -1,6 +1,8 @@
 // The head of the published words, and its number.
 ghost use Rattle.std.specs.Prelude.{◌≡◌, ◌^◌, ◌<◌};
-ghost use Rattle.published_prefix.specs.Heads.{code, head_number};
+ghost use Rattle.published_prefix.specs.Heads.{code, head_number, kind_of};
+
+use tile_coords::WalkEnd;
 
 // What one step and one end count in the number of a head.
 const STEP: u64 = 1 << 19;
@@ -27,6 +29,18 @@ pub struct Head {
 }
 
 impl EndKind {
+    /// What a head tells of an end.
+    pub fn of(end: &WalkEnd) -> EndKind
+        ensures { result ≡ kind_of end.now }
+    {
+        match end {
+            WalkEnd::Partial => EndKind::Partial,
+            WalkEnd::Complete => EndKind::Complete,
+            WalkEnd::TooMany => EndKind::TooMany,
+            WalkEnd::Fault { .. } => EndKind::Fault,
+        }
+    }
+
     fn code(self) -> u64
         ensures { result ≡ code self }
     {

@@ -15,8 +15,6 @@ mod reading;
 mod seat;
 mod steps;
 mod view;
-mod walk_end;
-mod word;
 mod writing;
 
 pub use course::Course;
@@ -25,8 +23,6 @@ pub use prefix::{Laid, MOST_WORDS, Page, Prefix};
 pub use seat::{PrefixSeat, Seated};
 pub use steps::{Opening, Published};
 pub use view::{Half, Turn, View};
-pub use walk_end::WalkEnd;
-pub use word::Word;
 
 #[cfg(test)]
 mod tests;

@@ -5,8 +5,8 @@ ghost use Rattle.std.specs.Prelude.{IfNone};
 ghost use Rattle.published_prefix.specs.Heads.{head, NoFurther, FitsFaultWord};
 ghost use Rattle.published_prefix.specs.Seats.{newcomer, informed, looked, carried_by, has_work, turn_of};
 ghost use Rattle.published_prefix.specs.Prefixes.{sees, claims, with_turn, turn_at, Gains};
-ghost use Rattle.published_prefix.specs.declared.walk_end.WalkEnd.{WalkEnd};
-ghost use Rattle.published_prefix.specs.declared.walk_end.WalkEnd.TheVariants.{Partial};
+ghost use Rattle.tile_coords.specs.declared.walk_end.WalkEnd.{WalkEnd};
+ghost use Rattle.tile_coords.specs.declared.walk_end.WalkEnd.TheVariants.{Partial};
 ghost use Rattle.published_prefix.specs.declared.view.Turn.TheVariants.{Idle, Claimed, At};
 ghost use Rattle.atomic_table.specs.Table.{rest};
 
@@ -14,12 +14,11 @@ use crate::course::{Course, Rooms};
 use crate::seat::{PrefixSeat, Seated};
 use crate::steps::{Claims, Informs, Leaves, Opening, Published, Sees};
 use crate::view::View;
-use crate::walk_end::WalkEnd;
-use crate::word::Word;
 use atomic_table::{Table, TableRule};
 use contract_tokens::{Tells, Told};
 use std::alloc::{AllocError, Global};
 use std::marker::{Brand, Model};
+use tile_coords::{WalkEnd, Word};
 
 // Where the words of the table stand. The word at place i is the two numbers at FIRST + 2i, the higher first.
 pub(crate) const HEAD: usize = 0;

@@ -2,14 +2,13 @@
 ghost use Rattle.std.specs.Prelude.{◌≡◌, ℕ, ◌+◌, ◌*◌, ◌/◌, ◌%◌, ◌^◌, ◌<◌, ◌≤◌, length, slice_index, Some, None};
 ghost use Rattle.published_prefix.specs.Heads.{head_number, kind_of, FitsFaultWord};
 ghost use Rattle.published_prefix.specs.Prefixes.{sees};
-ghost use Rattle.published_prefix.specs.declared.walk_end.WalkEnd.TheVariants.{Fault};
+ghost use Rattle.tile_coords.specs.declared.walk_end.WalkEnd.TheVariants.{Fault};
 
 use crate::course::Course;
 use crate::head::{EndKind, Head};
 use crate::prefix::{FAULT, FIRST, HEAD, Place, Prefix};
 use crate::steps::{ReadsFaultHigh, ReadsFaultLow, ReadsHigh, ReadsLow, Sees};
-use crate::walk_end::WalkEnd;
-use crate::word::Word;
+use tile_coords::{WalkEnd, Word};
 
 impl<C: Course> Prefix<C> {
     // Loads the head. Where the seat has just taken the turn, it has the work from then on.

@@ -5,14 +5,15 @@ ghost use Rattle.std.specs.Arc.{arc_value};
 ghost use Rattle.published_prefix.specs.Heads.{FitsFaultWord};
 ghost use Rattle.published_prefix.specs.Samples.{any_begins, IsNumberedHead};
 ghost use Rattle.published_prefix.specs.Samples.{numbered_steps_are_few, numbered_faults_fit, numbered_begins};
-ghost use Rattle.published_prefix.specs.declared.walk_end.WalkEnd.TheVariants.{Partial, Complete};
+ghost use Rattle.tile_coords.specs.declared.walk_end.WalkEnd.TheVariants.{Partial, Complete};
 
-use crate::{Course, Prefix, PrefixSeat, WalkEnd, Word};
+use crate::{Course, Prefix, PrefixSeat};
 use contract_tokens::Tells;
 use std::alloc::{AllocError, Global};
 use std::sync::{Arc, Wait};
 use std::test::Fail;
 use std::thread::{Threads, join, yield_now};
+use tile_coords::{WalkEnd, Word};
 
 // The words of a quadtree of three levels, all tiles of which are there, up to level 1. The subtrees have two levels,
 // and there are no contents. The higher number of a word is the level times 2^16, the lower one the tile's Morton

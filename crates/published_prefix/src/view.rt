@@ -1,7 +1,7 @@
 // What the table keeps of a seat.
 use crate::head::Head;
-use crate::walk_end::WalkEnd;
 use std::collections::LinkedList;
+use tile_coords::WalkEnd;
 
 /// What a seat has of the turn, for contracts alone. No value of it is made.
 pub enum Turn {

@@ -5,16 +5,15 @@ ghost use Rattle.published_prefix.specs.Heads.{head, fault_high, fault_low, Fits
 ghost use Rattle.published_prefix.specs.Seats.{turn_of};
 ghost use Rattle.published_prefix.specs.Prefixes.{halves_of, with_turn, seeing, storing, word_with, sees, turn_at};
 ghost use Rattle.published_prefix.specs.Prefixes.{Gains};
-ghost use Rattle.published_prefix.specs.declared.walk_end.WalkEnd.{WalkEnd};
-ghost use Rattle.published_prefix.specs.declared.walk_end.WalkEnd.TheVariants.{Partial, Fault};
+ghost use Rattle.tile_coords.specs.declared.walk_end.WalkEnd.{WalkEnd};
+ghost use Rattle.tile_coords.specs.declared.walk_end.WalkEnd.TheVariants.{Partial, Fault};
 ghost use Rattle.published_prefix.specs.declared.view.Turn.TheVariants.{At};
 
 use crate::course::{Course, Heads};
-use crate::head::Head;
+use crate::head::{EndKind, Head};
 use crate::prefix::{FAULT, FIRST, HEAD, Place, Prefix};
 use crate::steps::{Publishes, PutsFaultHigh, PutsFaultLow, PutsHalf};
-use crate::walk_end::WalkEnd;
-use crate::word::Word;
+use tile_coords::{WalkEnd, Word};
 
 impl<C: Course> Prefix<C> {
     // Loads the head, by the seat that has the work. It is as it was.
@@ -60,7 +59,7 @@ impl<C: Course> Prefix<C> {
     {
         let next = Head {
             steps: head.steps + 1,
-            end: end.kind(),
+            end: EndKind::of(end),
             length: head.length + words.len(),
         };
         self.write_words(place, head.length, words);

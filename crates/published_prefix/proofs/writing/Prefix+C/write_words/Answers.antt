@@ -1,7 +1,7 @@
 use Rattle.std.proofs.Common.{◌≡◌, ℕ, ◌+◌, ◌*◌, take, length, slice_index, None, sym, ap, ◌∙◌, arith}
 use Rattle.std.proofs.lemmas.Grind.{get_or_default_zero}
 use Rattle.std.proofs.lemmas.List.{length-take-le}
-use Rattle.published_prefix.specs.declared.walk_end.WalkEnd.TheVariants.{Partial}
+use Rattle.tile_coords.specs.declared.walk_end.WalkEnd.TheVariants.{Partial}
 use Rattle.published_prefix.specs.declared.view.Turn.TheVariants.{At}
 use Rattle.published_prefix.specs.Prefixes.{halves_of, with_turn, word_with}
 use Rattle.published_prefix.proofs.Codes.{halves_length, halves_more}

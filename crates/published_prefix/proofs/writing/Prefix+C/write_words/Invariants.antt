@@ -1,5 +1,5 @@
 use Rattle.std.proofs.Common.{◌≡◌, ℕ, [], take, None}
-use Rattle.published_prefix.specs.declared.walk_end.WalkEnd.TheVariants.{Partial}
+use Rattle.tile_coords.specs.declared.walk_end.WalkEnd.TheVariants.{Partial}
 use Rattle.published_prefix.specs.declared.view.Turn.TheVariants.{At}
 use Rattle.published_prefix.specs.Prefixes.{halves_of, with_turn}
 use Rattle.published_prefix.proofs.writing.Prefix+C.write_words.Given as goal
