@@ -221,6 +221,7 @@ def check_cases():
     for name, files, wanted in (("exactly_65536_files", with_children("QUADTREE", 8, 16, missing=1), "end|checked|65536|0"),
                                 ("65537_files", with_children("QUADTREE", 8, 16), "end|too-many|65536|0"),
                                 ("262145_files", tileset_b(9, 18), "end|too-many|65536|0"),
+                                ("1048577_files", tileset_b(10, 32), "end|too-many|65536|0"),
                                 ("an_octree_of_2097153_files", tileset_b(7, 14, "OCTREE"), "end|too-many|65536|0"),
                                 ("subtrees_of_one_level", tileset_b(1, 32), "end|too-many|65536|0"),
                                 ("subtrees_of_three_levels", tileset_b(3, 32), "end|too-many|65536|0"),
