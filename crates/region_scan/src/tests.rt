@@ -64,47 +64,15 @@ fn regions_and_limits(rt: HostRuntime) -> Result<(), Fail> {
     // a region's level and box, the limit, the indices of the tiles of local level 1, whether there are more, and those of
     // the child roots
     let rows: [(u32, [u32; 3], [u32; 3], usize, &[u64], bool, &[u64]); 9] = [
-        (
-            2,
-            [0, 0, 0],
-            [3, 3, 0],
-            3,
-            &[4, 5, 6],
-            false,
-            &[],
-        ),
+        (2, [0, 0, 0], [3, 3, 0], 3, &[4, 5, 6], false, &[]),
         (2, [0, 0, 0], [3, 3, 0], 2, &[4, 5], true, &[]),
         (2, [0, 0, 0], [3, 3, 0], 0, &[], true, &[]),
-        (
-            2,
-            [0, 0, 0],
-            [3, 3, 0],
-            4,
-            &[4, 5, 6],
-            false,
-            &[],
-        ),
+        (2, [0, 0, 0], [3, 3, 0], 4, &[4, 5, 6], false, &[]),
         (1, [0, 0, 0], [1, 1, 0], 9, &[], false, &[]),
         (2, [0, 2, 0], [1, 3, 0], 9, &[], false, &[]),
-        (
-            4,
-            [12, 1, 0],
-            [12, 1, 0],
-            9,
-            &[5],
-            false,
-            &[20],
-        ),
+        (4, [12, 1, 0], [12, 1, 0], 9, &[5], false, &[20]),
         (3, [6, 2, 0], [7, 3, 0], 0, &[], false, &[]),
-        (
-            3,
-            [5, 0, 0],
-            [6, 0, 0],
-            9,
-            &[4, 5],
-            false,
-            &[17, 20],
-        ),
+        (3, [5, 0, 0], [6, 0, 0], 9, &[4, 5], false, &[17, 20]),
     ];
     for (level, lo, hi, limit, tiles, more, roots) in rows {
         let alloc = rt.alloc();
