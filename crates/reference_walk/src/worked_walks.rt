@@ -15,7 +15,7 @@ use tileset_json::Layout;
 use uri_template::Template;
 
 // A tile: its level and its coordinates.
-type Place = (u64, u64, u64, u64);
+type Place = (u32, u64, u64, u64);
 
 // Subtrees whose bits are all 1; and one of two levels by bitstreams of tiles and of child subtrees.
 const ONES: &str =
@@ -41,7 +41,7 @@ fn word(axes: u32, tile: Place) -> Word
     for bit in 20..31u32 {
         index |= (x >> bit & 1) << (2 * bit) | (y >> bit & 1) << (2 * bit + 1);
     }
-    word_at(level as u32, index, 0)
+    word_at(level, index, 0)
 }
 
 fn words(alloc: Global, axes: u32, tiles: &[Place]) -> Result<Vec<Word>, AllocError>
@@ -129,16 +129,16 @@ fn walk(
     requires { FitsLayout layout.now plan.now }
 {
     let mut plain = Vec::new(alloc);
-    let Ok(end) = fresh(alloc, files, layout, plan, &mut plain) else {
-        return Ok(None);
-    };
+    let end = fresh(alloc, files, layout, plan, &mut plain);
     let mut held = Vec::new(alloc);
-    if framed(alloc, files, layout, plan, 4, &mut held) != Ok(end)
-        || held.as_slice() != plain.as_slice()
-    {
+    let same = framed(alloc, files, layout, plan, 4, &mut held) == end;
+    if !same || held.as_slice() != plain.as_slice() {
         return Ok(None);
     }
-    Ok(Some((plain, end)))
+    match end {
+        Ok(end) => Ok(Some((plain, end))),
+        Err(_) => Ok(None),
+    }
 }
 
 // The same over files of these names and bytes, of a box of a quadtree.
@@ -284,7 +284,7 @@ fn faults_in_and_outside_the_region(rt: HostRuntime) -> Result<(), Fail> {
 }
 
 // The tiles of level 0 to 16 or 17 whose x is 0, by level and by y, as far as an answer goes.
-fn left_column(alloc: Global, level: u64) -> Result<Vec<Place>, AllocError>
+fn left_column(alloc: Global, level: u32) -> Result<Vec<Place>, AllocError>
     requires { level ≤ 17 }
 {
     let mut tiles = Vec::new(alloc);
@@ -306,7 +306,7 @@ fn the_cut_and_its_neighbour(rt: HostRuntime) -> Result<(), Fail> {
     let alloc = rt.alloc();
     let layout = layout(alloc, Scheme::Quad, 9, 18, ONE_FOR_ALL)?;
     for (level, end) in [(16u32, WalkEnd::Complete), (17, WalkEnd::TooMany)] {
-        let tiles = left_column(alloc, u64::from(level))?;
+        let tiles = left_column(alloc, level)?;
         assert!(rt; tiles.len() == 65536);
         let walked = walk_box(
             alloc,
@@ -335,7 +335,7 @@ fn one_path_down_to_the_last_level(rt: HostRuntime) -> Result<(), Fail> {
         [last, last],
     )?;
     let mut tiles = Vec::new(alloc);
-    for level in 0..32u64 {
+    for level in 0..32u32 {
         let greatest = (1u64 << level) - 1;
         tiles.push((level, greatest, greatest, 0))?;
     }
