@@ -69,12 +69,16 @@ def make_cases():
     made("a_full_level", ("quadtree", 3, 2, 1, 10000, 5))
     for name, words in (("a_recipe_of_five_words", WORKED[:5]), ("a_recipe_of_seven_words", WORKED + ["1"]), ("no_recipe", []),
                         ("another_scheme", ["Quadtree"] + WORKED[1:]), ("no_levels", ["quadtree", "0"] + WORKED[2:]),
-                        ("too_many_levels_of_a_quadtree", ["quadtree", "33"] + WORKED[2:]), ("too_many_levels_of_an_octree", ["octree", "22"] + WORKED[2:]),
-                        ("subtrees_of_no_levels", ["quadtree", "3", "0"] + WORKED[3:]), ("subtrees_of_eleven_levels", ["quadtree", "3", "11"] + WORKED[3:]),
-                        ("octree_subtrees_of_eight_levels", ["octree", "3", "8"] + WORKED[3:]), ("seventeen_contents_to_make", WORKED[:3] + ["17"] + WORKED[4:]),
+                        ("too_many_levels_of_a_quadtree", ["quadtree", "33"] + WORKED[2:]),
+                        ("too_many_levels_of_an_octree", ["octree", "22"] + WORKED[2:]),
+                        ("subtrees_of_no_levels", ["quadtree", "3", "0"] + WORKED[3:]),
+                        ("subtrees_of_eleven_levels", ["quadtree", "3", "11"] + WORKED[3:]),
+                        ("octree_subtrees_of_eight_levels", ["octree", "3", "8"] + WORKED[3:]),
+                        ("seventeen_contents_to_make", WORKED[:3] + ["17"] + WORKED[4:]),
                         ("no_points", WORKED[:4] + ["0", "1"]), ("too_many_points", WORKED[:4] + ["10001", "1"]),
                         ("a_number_past_32_bits", WORKED[:5] + ["4294967296"]), ("a_number_with_a_zero_before", WORKED[:5] + ["01"]),
-                        ("a_number_with_a_sign", WORKED[:5] + ["+1"]), ("a_number_below_zero", WORKED[:5] + ["-1"]), ("a_number_with_a_blank", WORKED[:5] + ["1 "]),
+                        ("a_number_with_a_sign", WORKED[:5] + ["+1"]), ("a_number_below_zero", WORKED[:5] + ["-1"]),
+                        ("a_number_with_a_blank", WORKED[:5] + ["1 "]),
                         ("dashes_twice_before_a_recipe", ["--", "--"] + WORKED[1:]), ("a_number_that_is_not_utf8", WORKED[:5] + [b"\xff"])):
         for command in ("make", "survey"):
             left_in_folder(f"{command}_{name}", {}, [command, *words], {}, "", 2)
