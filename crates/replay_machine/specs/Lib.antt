@@ -1,0 +1,6 @@
+pub mod Machine
+pub mod Asking
+pub mod Said
+pub mod Turns
+pub mod Runs
+pub mod Laws
