@@ -3,4 +3,5 @@ pub mod Asking
 pub mod Said
 pub mod Turns
 pub mod Runs
+pub mod Used
 pub mod Laws

@@ -4,3 +4,4 @@
 #![tactic(auto)]
 
 pub mod turn_laws;
+pub mod use_laws;
