@@ -12,6 +12,7 @@ use Rattle.implicit_tiling.specs.Region.{Region, is_in, is_within, each_axis, co
 use Rattle.implicit_tiling.specs.Availability.{nodes_above}
 use Rattle.implicit_tiling.specs.Subtree.{Subtree, IsSubtree, is_kept, has_tile, has_child}
 use Rattle.implicit_tiling.specs.Bits.{bit_at}
+use Rattle.implicit_tiling.specs.Code.{word}
 use Rattle.implicit_tiling.specs.Nodes.{node_at, indices, is_tile_in, node_word, level_words, is_child_in, child_word, child_words}
 use Rattle.region_scan.specs.Found.{is_looked_at, first_index}
 use Rattle.region_scan.specs.NodeLaws.{below, IsNode}
@@ -46,6 +47,13 @@ node_level s l m = tile_at_level s.scheme (s.root.level + l) (index s.scheme s.r
 pub node_index : (s : Subtree) (l m : ℕ) → m < branching s.scheme ^ l → index s.scheme (node_at s l m) ≡ index s.scheme s.root * branching s.scheme ^ l + m
 node_index s l m h =
     index_of_tile_at s.scheme (s.root.level + l) (index s.scheme s.root * branching s.scheme ^ l + m) (index_in_level s.scheme s.root l m h)
+
+-- the word of a node is that of its level, its mask and its index
+pub word_of_node : (s : Subtree) (l m first level mask : ℕ) → m < branching s.scheme ^ l → first ≡ first_index s l → level ≡ s.root.level + l
+    → level * 2 ^ 80 + mask * 2 ^ 64 + (first + m) ≡ word s.scheme (node_at s l m) mask
+word_of_node s l m first level mask h at level_is =
+    ap (λ n. n * 2 ^ 80 + mask * 2 ^ 64 + (first + m)) (level_is ∙ sym (node_level s l m))
+    ∙ ap (λ n. (node_at s l m).level * 2 ^ 80 + mask * 2 ^ 64 + n) (ap (λ n. n + m) at ∙ sym (node_index s l m h))
 
 -- a node below the levels in all is within the limits
 pub node_within : (s t : Subtree) (l m : ℕ) (n : Tile) → s ≡ t → IsSubtree s → t.root.level + l < t.cut → n ≡ node_at t l m → n.level < most_levels s.scheme

@@ -1,12 +1,13 @@
 // One node of a subtree as a tile and a word.
 ghost use Rattle.std.specs.Prelude.{◌≡◌, ◌+◌, ◌^◌, ◌<◌, ◌≤◌};
 ghost use Rattle.implicit_tiling.specs.Tile.{branching};
+ghost use Rattle.implicit_tiling.specs.Code.{word};
 ghost use Rattle.implicit_tiling.specs.Nodes.{node_at as node_at_of, node_word, child_word};
 ghost use Rattle.region_scan.specs.Found.{first_index, is_looked_at as is_looked_at_of};
 
 use availability::Subtree;
 use tile_coords::{Region, Tile, Word};
-use tile_word::{index_of, tile_at, word_of};
+use tile_word::{index_of, tile_at, word_at};
 
 /// Whether the nodes of a local level are below the levels in all, and not below the region's level: where they aren't,
 /// none of them is in the region.
@@ -37,8 +38,8 @@ pub(crate) fn tile_word(subtree: &Subtree, local: u32, first: u64, index: u64) -
     requires index { index < branching subtree.now.scheme ^ local }
     ensures { result ≡ node_word subtree.now local index }
 {
-    let tile = node_at(subtree, local, first, index);
-    word_of(subtree.scheme, &tile, subtree.contents_at(local, index))
+    let mask = subtree.contents_at(local, index);
+    word_with(subtree, local, first, index, mask)
 }
 
 /// The word of a child root. `first` is the index of the first one.
@@ -49,8 +50,21 @@ pub(crate) fn root_word(subtree: &Subtree, first: u64, index: u64) -> Word
     requires index { index < branching subtree.now.scheme ^ subtree.now.levels }
     ensures { result ≡ child_word subtree.now index }
 {
-    let root = node_at(subtree, subtree.levels, first, index);
-    word_of(subtree.scheme, &root, 0)
+    word_with(subtree, subtree.levels, first, index, 0)
+}
+
+// The word of a node, or of a child root, with a mask. Its index is at hand, and no tile is made for it.
+#[inline]
+fn word_with(subtree: &Subtree, local: u32, first: u64, index: u64, mask: u16) -> Word
+    requires local { local ≤ subtree.now.levels }
+    requires first { first ≡ first_index subtree.now local }
+    requires kept { subtree.now.root.level + local < subtree.now.cut }
+    requires index { index < branching subtree.now.scheme ^ local }
+    ensures { result ≡ word subtree.now.scheme (node_at_of subtree.now local index) mask }
+{
+    // The scheme is read so that the limits of the subtree are known.
+    let _scheme = subtree.scheme;
+    word_at(level_of(subtree, local), first + index, mask)
 }
 
 // The level of the nodes of a local level.
