@@ -1,9 +1,11 @@
-//! The walks over a tileset whose `tileset.json` has no fault: `tiles` and `check`. Each subtree file is read once.
+//! The walks over a tileset whose `tileset.json` has no fault: `tiles` and `check`. Each subtree file is read once, but by
+//! `tiles` over a few frames.
 use crate::subtree::{decode, Subtree};
 use crate::tileset::{Layout, Template};
 use crate::tree::{Region, Scheme};
 use std::collections::HashMap;
 use std::io::{ErrorKind, Write};
+use std::ops::Range;
 use std::{fs, io};
 
 const MOST_TILES: usize = 65536;
@@ -59,6 +61,9 @@ struct Walked {
     subtree: Subtree,
     nodes: Vec<Node>,
 }
+
+// A subtree by the level and the index of its root.
+type Kept = (u32, u64, Subtree);
 
 #[derive(Clone, Copy)]
 pub enum End {
@@ -144,6 +149,74 @@ impl<F: Files> Scene<F> {
         Ok(End::Complete)
     }
 
+    /// The same walk by a program that keeps no more than a few subtrees, those that were used last: a subtree is read again
+    /// for each of its levels where it isn't kept any more.
+    pub fn walk_over(&self, frames: usize, region: &Region, mut give: impl FnMut(u32, [u32; 3], u8) -> io::Result<()>) -> io::Result<End> {
+        let levels = self.layout.subtree_levels;
+        let (mut level, mut found) = (0, 0);
+        let mut kept = Vec::with_capacity(frames);
+        let (mut roots, mut nodes) = (vec![Node::ROOT], Vec::new());
+        while level <= region.level && level < self.layout.levels && !roots.is_empty() {
+            let mut below = Vec::new();
+            for local in 0..levels.min(region.level + 1 - level) {
+                let above = self.scheme().nodes_above(local);
+                for &root in &roots {
+                    let subtree = match self.hold(&mut kept, frames, level, root)? {
+                        Ok(subtree) => subtree,
+                        Err(number) => return Ok(End::Fault { number, level, root }),
+                    };
+                    nodes.clear();
+                    self.descend(region, level, subtree, Node { index: 0, ..root }, 0..local, &mut nodes);
+                    for node in &nodes {
+                        if found == MOST_TILES {
+                            return Ok(End::TooMany);
+                        }
+                        give(level + local, node.coordinates, mask(subtree, above + node.index))?;
+                        found += 1;
+                    }
+                    if local + 1 == levels && level + levels <= region.level {
+                        self.append_children(region, level + levels, root, subtree, &nodes, &mut below);
+                    }
+                }
+            }
+            level += levels;
+            roots = below;
+        }
+        Ok(End::Complete)
+    }
+
+    // The subtree of a root, which becomes the last one that is kept.
+    fn hold<'k>(&self, kept: &'k mut Vec<Kept>, frames: usize, level: u32, root: Node) -> io::Result<Result<&'k Subtree, u64>> {
+        match kept.iter().position(|(at, index, _)| *at == level && *index == root.index) {
+            Some(place) => kept[place..].rotate_left(1),
+            None => match self.read(level, root)? {
+                Ok(subtree) => {
+                    if kept.len() == frames {
+                        kept.remove(0);
+                    }
+                    kept.push((level, root.index, subtree));
+                }
+                Err(number) => return Ok(Err(number)),
+            },
+        }
+        Ok(Ok(&kept.last().unwrap().2))
+    }
+
+    // The tiles of a local level that are in the region, from a node of a local level above it.
+    fn descend(&self, region: &Region, level: u32, subtree: &Subtree, node: Node, locals: Range<u32>, nodes: &mut Vec<Node>) {
+        let local = locals.start;
+        if !subtree.tiles.get(self.scheme().nodes_above(local) + node.index) || !region.meets(level + local, node.coordinates) {
+            return;
+        }
+        if local == locals.end {
+            nodes.push(node);
+            return;
+        }
+        for child in node.children(self.scheme()) {
+            self.descend(region, level, subtree, child, local + 1..locals.end, nodes);
+        }
+    }
+
     // From the tiles of one local level to those of the next one.
     fn go_down(&self, region: &Region, level: u32, local: u32, walked: &mut Walked) {
         let above = self.scheme().nodes_above(local);
@@ -152,22 +225,26 @@ impl<F: Files> Scene<F> {
     }
 
     fn child_roots(&self, region: &Region, level: u32, all: &[Walked]) -> Vec<Node> {
-        let depth = self.scheme().axes() * self.layout.subtree_levels;
         let mut roots = Vec::new();
         for Walked { root, subtree, nodes } in all {
-            let children = nodes.iter().flat_map(|node| node.children(self.scheme()));
-            let found = children.filter(|child| subtree.child.get(child.index) && region.meets(level, child.coordinates));
-            roots.extend(found.map(|child| Node { index: root.index << depth | child.index, ..child }));
+            self.append_children(region, level, *root, subtree, nodes, &mut roots);
         }
         roots
     }
 
-    /// The text of `view tiles`.
-    pub fn tiles(&self, region: &Region) -> io::Result<()> {
+    fn append_children(&self, region: &Region, level: u32, root: Node, subtree: &Subtree, nodes: &[Node], roots: &mut Vec<Node>) {
+        let depth = self.scheme().axes() * self.layout.subtree_levels;
+        let children = nodes.iter().flat_map(|node| node.children(self.scheme()));
+        let found = children.filter(|child| subtree.child.get(child.index) && region.meets(level, child.coordinates));
+        roots.extend(found.map(|child| Node { index: root.index << depth | child.index, ..child }));
+    }
+
+    /// The text of `view tiles`, by a program that keeps all subtrees, or no more than so many.
+    pub fn tiles(&self, region: &Region, frames: Option<usize>) -> io::Result<()> {
         let mut stdout = io::stdout().lock();
         let mut text = String::with_capacity(2 * PIECE);
         let mut found = 0;
-        let end = self.walk(region, |level, coordinates, mask| {
+        let give = |level, coordinates, mask| {
             self.append_line(level, coordinates, mask, &mut text);
             found += 1;
             if text.len() >= PIECE {
@@ -175,7 +252,11 @@ impl<F: Files> Scene<F> {
                 text.clear();
             }
             Ok(())
-        })?;
+        };
+        let end = match frames {
+            None => self.walk(region, give)?,
+            Some(frames) => self.walk_over(frames, region, give)?,
+        };
         text.push_str(&match end {
             End::Complete => format!("end\tcomplete\t{found}\n"),
             End::TooMany => format!("end\ttoo-many\t{found}\n"),

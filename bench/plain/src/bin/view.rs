@@ -1,4 +1,5 @@
-//! The commands of view in plain Rust, over good command lines and layouts: the same text, the same files.
+//! The commands of view in plain Rust, over good command lines and layouts: the same text, the same files. `tiles` keeps all
+//! subtrees, or only as many as FRAMES in the environment says.
 use plain::make::Recipe;
 use plain::tree::Region;
 use plain::walk::{End, Folder, Scene};
@@ -15,7 +16,8 @@ fn corner(word: &str) -> [u32; 3] {
 
 fn tiles(level: &str, lo: &str, hi: &str) -> io::Result<()> {
     let level = level.parse().expect("a level");
-    Scene::open(Folder)?.tiles(&Region { level, lo: corner(lo), hi: corner(hi) })
+    let frames = env::var("FRAMES").ok().map(|frames| frames.parse().expect("how many frames"));
+    Scene::open(Folder)?.tiles(&Region { level, lo: corner(lo), hi: corner(hi) }, frames)
 }
 
 fn make(recipe: &Recipe) -> io::Result<()> {
