@@ -8,7 +8,7 @@ ghost use Rattle.request_text.specs.Fields.{joined, after_tab};
 use itoa::Buffer;
 use std::alloc::AllocError;
 use tile_coords::{Scheme, Tile, Word};
-use tile_word::{WordTile, tile_of};
+use tile_word::word_tile;
 
 // Appends a text, a number and LF.
 pub(crate) fn push_count(text: &str, count: usize, piece: &mut String) -> Result<(), AllocError>
@@ -26,9 +26,7 @@ pub(crate) fn push_place(scheme: Scheme, word: Word, piece: &mut String) -> Resu
     ensures { OnOk result (string_bytes piece.new ≡ string_bytes piece.old
         ++ joined (coordinate_texts scheme (word_tile scheme word))) }
 {
-    let Some(WordTile { tile, .. }) = tile_of(scheme, word) else {
-        unreachable!()
-    };
+    let tile = word_tile(scheme, word);
     push_coordinates(scheme, &tile, piece)
 }
 

@@ -12,7 +12,7 @@ ghost use Rattle.request_text.specs.Fields.{joined, after_tab};
 
 use itoa::Buffer;
 use tile_coords::{Scheme, Tile, WalkEnd, Word};
-use tile_word::{WordTile, tile_of};
+use tile_word::{mask_of, word_tile};
 use tileset_json::Layout;
 use uri_template::Template;
 
@@ -36,10 +36,8 @@ fn length_of_word(layout: &Layout, word: Word) -> u64
     ensures length { result ≡ length (word_line layout.now word) }
     ensures short { result ≤ 180000 }
 {
-    let Some(WordTile { tile, mask }) = tile_of(layout.scheme, word) else {
-        unreachable!()
-    };
-    length_of_tile(layout, &tile, mask)
+    let tile = word_tile(layout.scheme, word);
+    length_of_tile(layout, &tile, mask_of(word))
 }
 
 fn length_of_tile(layout: &Layout, tile: &Tile, mask: u16) -> u64
@@ -79,9 +77,7 @@ fn length_of_fault(scheme: Scheme, count: usize, root: Word, number: u64) -> u64
     ensures length { result ≡ length (end_line scheme count (fault (word_tile scheme root) number)) }
     ensures short { result ≤ 200 }
 {
-    let Some(WordTile { tile, .. }) = tile_of(scheme, root) else {
-        unreachable!()
-    };
+    let tile = word_tile(scheme, root);
     "end\tfault\t".len() as u64
         + digits_of(count as u64)
         + 1

@@ -18,7 +18,7 @@ use crate::fields::{push_coordinates, push_count, push_field, push_number, push_
 use scene_ports::{GiveFault, Outlet, give_rest, give_when_full};
 use std::alloc::{AllocError, Global};
 use tile_coords::{Scheme, Tile, WalkEnd, Word};
-use tile_word::{WordTile, tile_of};
+use tile_word::{mask_of, word_tile};
 use tileset_json::Layout;
 use uri_template::Template;
 
@@ -76,10 +76,8 @@ pub fn push_word_line(layout: &Layout, word: Word, piece: &mut String) -> Result
     requires { IsWord layout.now.scheme word }
     ensures { OnOk result (string_bytes piece.new ≡ string_bytes piece.old ++ word_line layout.now word) }
 {
-    let Some(WordTile { tile, mask }) = tile_of(layout.scheme, word) else {
-        unreachable!()
-    };
-    push_tile_line(layout, &tile, mask, piece)
+    let tile = word_tile(layout.scheme, word);
+    push_tile_line(layout, &tile, mask_of(word), piece)
 }
 
 // Appends the line of a tile with the contents of a mask.
