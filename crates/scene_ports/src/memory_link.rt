@@ -1,7 +1,7 @@
 // A stream in memory, which fails at chosen calls.
-ghost use Rattle.std.specs.Prelude.{◌≡◌, ◌≤◌, [], Some, drop, length};
+ghost use Rattle.std.specs.Prelude.{◌≡◌, ◌≤◌, [], Some, drop, length, refl};
 
-use crate::{Give, Inlet, Outlet, Take};
+use crate::{Give, Inlet, Link, Outlet, Take};
 use std::alloc::Global;
 
 /// Bytes in memory, taken at most `piece` at a time, and a place that takes what is given, whole pieces. Of the takes
@@ -98,4 +98,12 @@ impl Inlet for MemoryLink {
         self.taken = self.taken.saturating_add(n as u64);
         Take::Got(n)
     }
+}
+
+impl Link for MemoryLink {
+    ghost given_is = { λ _. refl };
+
+    ghost inlet_is = { λ _. refl };
+
+    ghost faults_are = { λ _. refl };
 }
