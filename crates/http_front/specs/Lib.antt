@@ -1,2 +1,4 @@
 pub mod Reading
 pub mod Filling
+pub mod Requests
+pub mod Table

@@ -7,3 +7,6 @@ mod reading;
 
 pub use buffer::HeadBuffer;
 pub use reading::Reading;
+
+#[cfg(test)]
+mod tests;

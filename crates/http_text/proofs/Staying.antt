@@ -22,6 +22,7 @@ heads_stay bytes more p h is = record {
   lines = is.lines;
   long = is.long;
   get = is.get;
+  head = is.head;
   http10 = is.http10;
   target = part_stays bytes more p.target_start p.target_end is.inside.0 (omega (arith, is.inside.1, is.inside.2)) ∙ is.target;
   inside = (is.inside.0, is.inside.1, omega (arith, is.inside.2, length-append bytes more));

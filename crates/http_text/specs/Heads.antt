@@ -40,6 +40,7 @@ pub record IsHead (bytes : List ℕ) (p : HeadParts) (h : RequestHead) : Type 0 
   pub lines : length h.fields ≤ most_header_lines
   pub long : p.length ≡ length (print_request h)
   pub get : p.get ≡ bytes_eq h.method (codes "GET")
+  pub head : p.head ≡ bytes_eq h.method (codes "HEAD")
   pub http10 : p.http10 ≡ (h.minor == 0)
   pub target : slice_range bytes p.target_start p.target_end ≡ h.target
   pub inside : (p.target_start ≤ p.target_end) × (p.target_end ≤ p.length) × (p.length ≤ length bytes)

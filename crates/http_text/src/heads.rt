@@ -21,6 +21,8 @@ pub struct HeadParts {
     pub length: usize,
     /// The method is `GET`, byte by byte.
     pub get: bool,
+    /// The method is `HEAD`, byte by byte: a reply has no body (RFC 9110, section 9.3.2).
+    pub head: bool,
     /// The version is HTTP/1.0, and not HTTP/1.1.
     pub http10: bool,
     /// The place of the target's first byte.
@@ -56,6 +58,7 @@ pub fn head(bytes: &[u8]) -> HeadAnswer
         Ok(Status::Complete(head)) => HeadAnswer::Whole(HeadParts {
             length: head.len,
             get: head.method.of(bytes) == b"GET".as_slice(),
+            head: head.method.of(bytes) == b"HEAD".as_slice(),
             http10: head.version == 0,
             target_start: head.path.start,
             target_end: head.path.end,

@@ -14,6 +14,7 @@ fn told(alloc: Global, bytes: &[u8]) -> Result<String, Fail> {
     let mut text = format!(in alloc; "{}", parts.length)?;
     let flags = [
         (parts.get, " get"),
+        (parts.head, " head"),
         (parts.http10, " 1.0"),
         (parts.body, " body"),
         (parts.close, " close"),
@@ -52,7 +53,7 @@ fn heads(rt: HostRuntime) -> Result<(), Fail> {
         ),
         (b"GET /%2%zz%?%41+ HTTP/1.1\r\n\r\n", "29 get /%2%zz%?%41+"),
         (b"get / HTTP/1.1\r\n\r\n", "18 /"),
-        (b"HEAD / HTTP/1.1\r\n\r\n", "19 /"),
+        (b"HEAD / HTTP/1.1\r\n\r\n", "19 head /"),
         (b"POST / HTTP/1.1\r\ncontent-length: 0\r\n\r\n", "38 /"),
         (
             b"POST / HTTP/1.1\r\nContent-Length: 5\r\n\r\nhello",
