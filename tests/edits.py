@@ -11,7 +11,7 @@ import sys
 TOP = os.path.dirname(os.path.dirname(os.path.abspath(__file__)))
 MOST, MOST_OF_SLOW = 8, 5
 # The crates of which a check from nothing takes more than twenty processor seconds.
-SLOW = set("""availability bitstream commands frame_pool framed_walk http_text implicit_tileset published_prefix
+SLOW = set("""availability bitstream commands frame_pool framed_walk http_front http_text implicit_tileset published_prefix
     reference_walk region_cursor region_scan replay_script request_text scene_ports shared_pool subtree_file
     subtree_json subtree_outcome subtree_write tile_builder tile_coords tile_occupancy tile_walk tileset_json
     tileset_make tileset_write turn_lock uri_template view""".split())

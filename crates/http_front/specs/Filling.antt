@@ -1,4 +1,4 @@
--- For inner functions: what one take does to the bytes that stand in a buffer (this project's own).
+-- For proofs and inner functions: what one take does to the bytes that stand in a buffer (this project's own).
 use Rattle.std.specs.Prelude.{ℕ, ◌≡◌, ◌<◌, List, length, Option}
 use Rattle.std.specs.Io.KnownBytes.{Keeps, IsAtEnd}
 use Rattle.scene_ports.specs.declared.stream.Take.{Take}
