@@ -4,12 +4,12 @@ ghost use Rattle.implicit_tiling.specs.Steps.{steps};
 ghost use Rattle.implicit_tileset.specs.Scene.{scene_of};
 ghost use Rattle.frame_pool.specs.Frames.{most_frames};
 ghost use Rattle.scene_ports.specs.Counts.{Rose};
-ghost use Rattle.tile_coords.specs.Ends.{EndsAtRoot};
+ghost use Rattle.subtree_outcome.specs.Found.{AreTilesOf, EndsWithin};
 ghost use Rattle.region_cursor.specs.Cursor.{IsWalkOf};
 ghost use Rattle.region_cursor.specs.Moves.{begun};
 ghost use Rattle.region_cursor.specs.Walked.{IsAt};
 ghost use Rattle.walk_laws.specs.Plans.{FitsLayout, IsRegionOf};
-ghost use Rattle.tile_word.specs.Answers.{AreFound, IsAnswer};
+ghost use Rattle.tile_word.specs.Answers.{IsAnswer};
 ghost use Rattle.framed_walk.specs.Frames.{AreAtRest};
 ghost use Rattle.framed_walk.specs.Reads.{HasRead, IsReadOver, step_keys};
 
@@ -39,8 +39,8 @@ pub fn framed<S: FileSource>(
     requires frames { (1 ≤ frames) × (frames ≤ most_frames) }
     ensures answer { IfSome (S.told files.old)
         (λ all. IfOk result (IsAnswer (scene_of all layout.now) plan.now.region words.new.items)) }
-    ensures found { IfOk result (λ end. AreFound layout.now.scheme words.new.items) }
-    ensures end { IfOk result (EndsAtRoot layout.now.scheme) }
+    ensures found { IfOk result (λ end. AreTilesOf layout.now words.new.items) }
+    ensures end { IfOk result (EndsWithin layout.now) }
     ensures over { IfOk result (λ end. end ≢ WalkEnd.Partial) }
     ensures unchanged { IfErr result (λ stop. words.new.items ≡ words.old.items) }
     ensures failed { result ≡ Err WalkStop.ReadFault → Rose (S.faults files.old) (S.faults files.new) }
@@ -75,8 +75,8 @@ fn walk<S: FileSource>(
     requires empty { words.old.items ≡ [] }
     ensures answer { IfSome (S.told files.old)
         (λ all. IfOk result (IsAnswer (scene_of all layout.now) cursor.old.region words.new.items)) }
-    ensures found { IfOk result (λ end. AreFound layout.now.scheme words.new.items) }
-    ensures end { IfOk result (EndsAtRoot layout.now.scheme) }
+    ensures found { IfOk result (λ end. AreTilesOf layout.now words.new.items) }
+    ensures end { IfOk result (EndsWithin layout.now) }
     ensures over { IfOk result (λ end. end ≢ WalkEnd.Partial) }
     ensures failed { result ≡ Err WalkStop.ReadFault → Rose (S.faults files.old) (S.faults files.new) }
     ensures sure { result ≢ Err WalkStop.ReadFault → S.faults files.new ≡ S.faults files.old }

@@ -1,18 +1,18 @@
 -- One step of a walk, by what is read of its root.
-use Rattle.std.proofs.Common.{◌≡◌, ℕ, ◌+◌, ◌-◌, ◌%◌, ◌<◌, ◌≤◌, Bool, true, false, List, [], ◌∷◌, ◌++◌, length, map, take, get_or, Some, None, refl, sym, ap, subst, ◌∙◌, arith, append-nil, length-append, inl, inr}
+use Rattle.std.proofs.Common.{◌≡◌, ℕ, ◌+◌, ◌-◌, ◌%◌, ◌^◌, ◌<◌, ◌≤◌, Bool, true, false, List, [], ◌∷◌, ◌++◌, length, map, take, get_or, Some, None, refl, sym, ap, subst, ◌∙◌, arith, append-nil, length-append, inl, inr}
 use Rattle.std.proofs.lemmas.Bool.{cases_eq, eqb-true, and_parts}
 use Rattle.std.specs.Prelude.{◌==◌}
 use Rattle.std.proofs.lemmas.List.{length-take, map-append}
 use Rattle.std.proofs.Math.Seq.{take-append-add}
-use Rattle.std.proofs.lemmas.List.Elements.{All-append, All-take, All-nil, All-cons}
-use Rattle.implicit_tiling.specs.declared.Scheme.{Scheme}
+use Rattle.std.proofs.lemmas.List.Elements.{All-append, All-take, All-weaker, All-nil, All-cons}
+use Rattle.implicit_tiling.specs.Limits.{most_subtree_fault}
 use Rattle.implicit_tiling.specs.Tile.{Tile}
 use Rattle.implicit_tiling.specs.Region.{Region, is_in}
 use Rattle.implicit_tiling.specs.Scene.{Layout, Scene, good, bad, fault_of}
 use Rattle.implicit_tiling.specs.Availability.{is_reached}
 use Rattle.implicit_tiling.specs.Answer.{most_tiles}
 use Rattle.implicit_tiling.specs.Subtree.{Subtree, IsSubtree, IsOf, bits_of}
-use Rattle.implicit_tiling.specs.Code.{word_tile, IsWord, tile_word}
+use Rattle.implicit_tiling.specs.Code.{word_tile, word_level, tile_word}
 use Rattle.implicit_tiling.specs.Nodes.{level_words, child_words}
 use Rattle.implicit_tiling.specs.Steps.{pair_of, segment, root_level, pair_fault}
 use Rattle.region_scan.specs.NodeLaws.{IsNodeWord}
@@ -26,39 +26,37 @@ use Rattle.walk_laws.proofs.Segments.{local_low}
 use Rattle.walk_laws.proofs.Pairs.{fault_at_own_level, no_fault_of_good}
 use Rattle.tile_coords.specs.declared.walk_end.WalkEnd.{WalkEnd}
 use Rattle.tile_coords.specs.declared.walk_end.WalkEnd.TheVariants.{Partial, Complete, TooMany, Fault}
-use Rattle.tile_coords.specs.Ends.{EndsAtRoot}
 use Rattle.reference_walk.specs.Appended.{Appends, if_last_words}
-use Rattle.tile_word.specs.Roots.{IsRootWord, AreRoots, AreWords}
-use Rattle.subtree_outcome.specs.Outcomes.{IsFoundAt}
-use Rattle.tile_word.specs.Answers.{AreFound}
+use Rattle.tile_word.specs.Roots.{IsRootWord, AreRoots}
+use Rattle.subtree_outcome.specs.Outcomes.{IsFoundAt, IsOutcomeAt}
+use Rattle.subtree_outcome.specs.Found.{IsTileWord, AreTileWords, AreTilesOf, IsFaultOf, EndsWithin}
+use Rattle.subtree_outcome.proofs.Found.{tile_word_is, tiles_more}
+use Rattle.subtree_outcome.specs.declared.outcome.Outcome.{Outcome}
+use Rattle.subtree_outcome.specs.declared.outcome.Outcome.TheVariants.{Bad}
 use Rattle.reference_walk.specs.Walks.{pair_words, word_pair, Walks, if_last, next_roots, IsWalked}
 use Rattle.tile_walk.proofs.Words.{child_tiles}
 use Rattle.tile_walk.proofs.Roots.{child_is_root}
 
--- the words of a local level are words
-level_are_words : (layout : Layout) (st : Subtree) (region : Region) (local : ℕ) → IsSubtree st → IsOf layout st → AreWords layout.scheme (level_words st region local)
+-- the words of a local level are those of tiles of the layout
+level_are_words : (layout : Layout) (st : Subtree) (region : Region) (local : ℕ) → IsSubtree st → IsOf layout st → AreTileWords layout (level_words st region local)
 level_are_words layout st region local limits of =
-    let each = (found_words_are_words st region limits).tiles local in
-    let P : Scheme → Type 0 = λ e. AreWords e (level_words st region local) in
-    subst P of.same_scheme (λ k d low. (each k d low).is_word)
+    All-weaker (IsNodeWord st region local (2 ^ length st.contents)) (IsTileWord layout.scheme layout.levels (length layout.contents))
+    (λ w node. tile_word_is st.scheme layout.scheme st.cut layout.levels (length st.contents) (length layout.contents) w of.same_scheme of.same_cut of.contents_named
+    node.is_word node.below_cut node.mask)
+    (level_words st region local) ((found_words_are_words st region limits).tiles local)
 
 pub found_after : (layout : Layout) (st : Subtree) (region : Region) (local : ℕ) (before after roots next : List ℕ) (end : WalkEnd) → IsSubtree st → IsOf layout st
-    → Appends st region local before after roots next end → AreFound layout.scheme before → AreFound layout.scheme after
+    → Appends st region local before after roots next end → AreTilesOf layout before → AreTilesOf layout after
 found_after layout st region local before after roots next Partial limits of is found =
-    let P : List ℕ → Type 0 = AreWords layout.scheme in
-    record {
-      are_words = subst P (sym is.words) (All-append (IsWord layout.scheme) before (level_words st region local) found.are_words (level_are_words layout st region local limits of));
-      few = is.few;
-    }
+    let more = level_words st region local in
+    tiles_more layout before more after found (level_are_words layout st region local limits of) (omega (arith, is.few, ap (length {A = ℕ}) is.words, length-append before more)) is.words
 found_after layout st region local before after roots next Complete limits of is found = absurd is
 found_after layout st region local before after roots next TooMany limits of is found =
-    let P : List ℕ → Type 0 = AreWords layout.scheme in
-    let some = take (most_tiles - length before) (level_words st region local) in
-    record {
-      are_words = subst P (sym is.words) (All-append (IsWord layout.scheme) before some found.are_words
-          (All-take (IsWord layout.scheme) (most_tiles - length before) (level_words st region local) (level_are_words layout st region local limits of)));
-      few = omega (arith, found.few, ap (length {A = ℕ}) is.words, length-append before some, length-take (most_tiles - length before) (level_words st region local));
-    }
+    let room = most_tiles - length before in
+    let more = level_words st region local in
+    tiles_more layout before (take room more) after found
+    (All-take (IsTileWord layout.scheme layout.levels (length layout.contents)) room more (level_are_words layout st region local limits of))
+    (omega (arith, found.few, length-take room more)) is.words
 found_after layout st region local before after roots next (Fault root n) limits of is found = absurd is
 
 roots_if : (layout : Layout) (st : Subtree) (region : Region) (level : ℕ) (last : Bool) → IsSubtree st → IsOf layout st → 1 ≤ layout.subtree_levels
@@ -82,12 +80,27 @@ roots_after layout st region level local before after roots next TooMany limits 
     let P : List ℕ → Type 0 = AreRoots layout (level + 1) in subst P (sym is.same_roots) found
 roots_after layout st region level local before after roots next (Fault root n) limits of some at is found = absurd is
 
-pub ends_after : (scheme : Scheme) (st : Subtree) (region : Region) (local : ℕ) (before after roots next : List ℕ) (end : WalkEnd)
-    → Appends st region local before after roots next end → EndsAtRoot scheme end
-ends_after scheme st region local before after roots next Partial is = tt
-ends_after scheme st region local before after roots next Complete is = absurd is
-ends_after scheme st region local before after roots next TooMany is = tt
-ends_after scheme st region local before after roots next (Fault root n) is = absurd is
+pub ends_after : (layout : Layout) (st : Subtree) (region : Region) (local : ℕ) (before after roots next : List ℕ) (end : WalkEnd)
+    → Appends st region local before after roots next end → EndsWithin layout end
+ends_after layout st region local before after roots next Partial is = tt
+ends_after layout st region local before after roots next Complete is = absurd is
+ends_after layout st region local before after roots next TooMany is = tt
+ends_after layout st region local before after roots next (Fault root n) is = absurd is
+
+-- a root at its own level, and its fault
+pub own_level : (layout : Layout) (level w : ℕ) → IsRootWord layout level w → IsRootWord layout (word_level w) w
+own_level layout level w root = record {
+  is_word = root.is_word;
+  no_mask = root.no_mask;
+  at_level = refl;
+  below = omega (arith, root.below, root.at_level);
+  at_start = ap (λ l. l % layout.subtree_levels) root.at_level ∙ root.at_start;
+}
+
+pub fault_is_of : (layout : Layout) (level w n : ℕ) (r : Tile) (o : Outcome) → IsRootWord layout level w → IsOutcomeAt layout r o → o ≡ Bad n → IsFaultOf layout w n
+fault_is_of layout level w n r o root read same =
+    let own : (1 ≤ n) × (n ≤ most_subtree_fault) = subst (IsOutcomeAt layout r) same read in
+    record { root = own_level layout level w root; some = own.0; most = own.1 }
 
 -- a faulty file ends the walk: where it is known to have none below its root's level, the level is the root's
 fault_is : (s : Scene) (region : Region) (level w n : ℕ) (r : Tile) → r ≡ word_tile s.layout.scheme w → r.level ≡ root_level s.layout level → IsWalked s region level w

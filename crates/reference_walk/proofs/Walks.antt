@@ -20,7 +20,9 @@ use Rattle.tile_coords.specs.declared.walk_end.WalkEnd.{WalkEnd}
 use Rattle.tile_coords.specs.declared.walk_end.WalkEnd.TheVariants.{Partial, Complete, TooMany, Fault}
 use Rattle.tile_word.specs.Answers.{IsAnswer}
 use Rattle.reference_walk.specs.Walks.{pair_words, word_pair, Walks, GoesOn}
-use Rattle.tile_coords.specs.Ends.{end_seen, end_word, EndsAtRoot}
+use Rattle.tile_coords.specs.Ends.{end_seen, end_word}
+use Rattle.subtree_outcome.specs.Found.{EndsWithin}
+use Rattle.subtree_outcome.proofs.Found.{ends_at_root}
 use Rattle.tile_word.proofs.Ends.{end_of_words}
 
 pub pair_words-append : (s : Scene) (region : Region) (ps qs : List Pair) → pair_words s region (ps ++ qs) ≡ pair_words s region ps ++ pair_words s region qs
@@ -145,7 +147,7 @@ complete_answer s region words some on =
       end_by_word = ap (λ (b : Answer). end_word s.layout.scheme b.end) (sym a);
     }
 
-pub ended_answer : (s : Scene) (region : Region) (words : List ℕ) (end : WalkEnd) → 1 ≤ s.layout.subtree_levels → end ≢ Partial → EndsAtRoot s.layout.scheme end → Walks s region (pairs s region) [] words end
+pub ended_answer : (s : Scene) (region : Region) (words : List ℕ) (end : WalkEnd) → 1 ≤ s.layout.subtree_levels → end ≢ Partial → EndsWithin s.layout end → Walks s region (pairs s region) [] words end
     → IsAnswer s region words end
 ended_answer s region words Partial some over root is = absurd (over refl)
 ended_answer s region words Complete some over root is = absurd is
@@ -163,12 +165,12 @@ ended_answer s region words (Fault w n) some over root is =
     record {
       words_are = answer_at s region words _ a is.words;
       end_is = end_is;
-      end_by_word = end_of_words s.layout.scheme (Fault w n) (answer s region).end root end_is;
+      end_by_word = end_of_words s.layout.scheme (Fault w n) (answer s region).end (ends_at_root s.layout (Fault w n) root) end_is;
     }
 
 -- a walk that has ended at a level
 pub answer_at_level : (s : Scene) (region : Region) (level : ℕ) (words : List ℕ) (end : WalkEnd) → 1 ≤ s.layout.subtree_levels → level ≤ region.level → end ≢ Partial
-    → EndsAtRoot s.layout.scheme end → Walks s region (pairs_above s region (level + 1)) [] words end → IsAnswer s region words end
+    → EndsWithin s.layout end → Walks s region (pairs_above s region (level + 1)) [] words end → IsAnswer s region words end
 answer_at_level s region level words end some low over root is =
     let P : List Pair → Type 0 = λ ps. Walks s region ps [] words end in
     let rest = flat_map (level_pairs s region) (range_with_len (level + 1) (region.level + 1 - (level + 1))) in

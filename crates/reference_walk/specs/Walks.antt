@@ -13,7 +13,6 @@ use Rattle.walk_laws.specs.Pairs.{NoPairFaults, tiles_of_pairs}
 use Rattle.tile_coords.specs.declared.walk_end.WalkEnd.{WalkEnd}
 use Rattle.tile_coords.specs.declared.walk_end.WalkEnd.TheVariants.{Partial, Complete, TooMany, Fault}
 use Rattle.tile_coords.specs.Ends.{end_seen, end_word}
-use Rattle.tile_word.specs.Roots.{AreWords}
 
 -- the words of the tiles of some pairs
 abbrev pub pair_words : Scene → Region → List Pair → List ℕ

@@ -5,9 +5,8 @@ ghost use Rattle.implicit_tiling.specs.Code.{word_tile};
 ghost use Rattle.implicit_tiling.specs.Steps.{root_level};
 ghost use Rattle.implicit_tileset.specs.Scene.{scene_of};
 ghost use Rattle.scene_ports.specs.Counts.{Rose, more_by};
-ghost use Rattle.tile_coords.specs.Ends.{EndsAtRoot};
+ghost use Rattle.subtree_outcome.specs.Found.{AreTilesOf, EndsWithin};
 ghost use Rattle.tile_word.specs.Roots.{AreRoots};
-ghost use Rattle.tile_word.specs.Answers.{AreFound};
 ghost use Rattle.reference_walk.specs.Walks.{Walks, word_pair, next_roots, IsWalked};
 
 use crate::step::step;
@@ -29,7 +28,7 @@ pub(crate) fn walk_level<S: FileSource>(
     next: &mut Vec<Word>,
 ) -> Result<WalkEnd, WalkStop>
     requires roots { AreRoots layout.now (root_level layout.now level) roots.now }
-    requires found { AreFound layout.now.scheme words.old.items }
+    requires found { AreTilesOf layout.now words.old.items }
     requires next { AreRoots layout.now (level + 1) next.old.items }
     requires on_walk { IfSome (S.told files.old)
         (λ all. All (IsWalked (scene_of all layout.now) region.now level) roots.now) }
@@ -40,9 +39,9 @@ pub(crate) fn walk_level<S: FileSource>(
         → map (word_tile layout.now.scheme) next.new.items ≡ map (word_tile layout.now.scheme) next.old.items
         ++ flat_map (λ w. next_roots (scene_of all layout.now) region.now level (word_tile layout.now.scheme w))
         roots.now)) }
-    ensures found { IfOk result (λ end. AreFound layout.now.scheme words.new.items) }
+    ensures found { IfOk result (λ end. AreTilesOf layout.now words.new.items) }
     ensures next { IfOk result (λ end. AreRoots layout.now (level + 1) next.new.items) }
-    ensures end { IfOk result (EndsAtRoot layout.now.scheme) }
+    ensures end { IfOk result (EndsWithin layout.now) }
     ensures failed { result ≡ Err WalkStop.ReadFault → Rose (S.faults files.old) (S.faults files.new) }
     ensures sure { result ≢ Err WalkStop.ReadFault → S.faults files.new ≡ S.faults files.old }
     ensures later { S.faults files.old ≤ S.faults files.new }

@@ -3,9 +3,9 @@ ghost use Rattle.std.specs.Prelude.{◌≡◌, ◌≢◌, ◌≤◌, IfOk, IfErr
 ghost use Rattle.implicit_tiling.specs.Steps.{pairs};
 ghost use Rattle.implicit_tileset.specs.Scene.{scene_of};
 ghost use Rattle.scene_ports.specs.Counts.{Rose, more_by};
-ghost use Rattle.tile_coords.specs.Ends.{EndsAtRoot};
+ghost use Rattle.subtree_outcome.specs.Found.{AreTilesOf, EndsWithin};
 ghost use Rattle.walk_laws.specs.Plans.{FitsLayout, IsRegionOf};
-ghost use Rattle.tile_word.specs.Answers.{AreFound, IsAnswer};
+ghost use Rattle.tile_word.specs.Answers.{IsAnswer};
 ghost use Rattle.reference_walk.specs.Walks.{frontier_if, is_last};
 
 use crate::level::walk_level;
@@ -30,8 +30,8 @@ pub fn fresh<S: FileSource>(
     requires { FitsLayout layout.now plan.now }
     ensures answer { IfSome (S.told files.old)
         (λ all. IfOk result (IsAnswer (scene_of all layout.now) plan.now.region words.new.items)) }
-    ensures found { IfOk result (λ end. AreFound layout.now.scheme words.new.items) }
-    ensures end { IfOk result (EndsAtRoot layout.now.scheme) }
+    ensures found { IfOk result (λ end. AreTilesOf layout.now words.new.items) }
+    ensures end { IfOk result (EndsWithin layout.now) }
     ensures over { IfOk result (λ end. end ≢ WalkEnd.Partial) }
     ensures unchanged { IfErr result (λ stop. words.new.items ≡ words.old.items) }
     ensures failed { result ≡ Err WalkStop.ReadFault → Rose (S.faults files.old) (S.faults files.new) }
@@ -59,8 +59,8 @@ fn walk<S: FileSource>(
     requires empty { words.old.items ≡ [] }
     ensures answer { IfSome (S.told files.old)
         (λ all. IfOk result (IsAnswer (scene_of all layout.now) region.now words.new.items)) }
-    ensures found { IfOk result (λ end. AreFound layout.now.scheme words.new.items) }
-    ensures end { IfOk result (EndsAtRoot layout.now.scheme) }
+    ensures found { IfOk result (λ end. AreTilesOf layout.now words.new.items) }
+    ensures end { IfOk result (EndsWithin layout.now) }
     ensures over { IfOk result (λ end. end ≢ WalkEnd.Partial) }
     ensures failed { result ≡ Err WalkStop.ReadFault → Rose (S.faults files.old) (S.faults files.new) }
     ensures sure { result ≢ Err WalkStop.ReadFault → S.faults files.new ≡ S.faults files.old }

@@ -6,10 +6,9 @@ ghost use Rattle.implicit_tiling.specs.Subtree.{IsSubtree};
 ghost use Rattle.implicit_tiling.specs.Steps.{root_level};
 ghost use Rattle.implicit_tileset.specs.Scene.{scene_of};
 ghost use Rattle.scene_ports.specs.Counts.{Rose, one_more};
-ghost use Rattle.tile_coords.specs.Ends.{EndsAtRoot};
+ghost use Rattle.subtree_outcome.specs.Found.{AreTilesOf, EndsWithin};
 ghost use Rattle.reference_walk.specs.Appended.{Appends};
 ghost use Rattle.tile_word.specs.Roots.{IsRootWord, AreRoots};
-ghost use Rattle.tile_word.specs.Answers.{AreFound};
 ghost use Rattle.reference_walk.specs.Walks.{Walks, word_pair, next_roots, IsWalked};
 
 use availability::Subtree;
@@ -37,7 +36,7 @@ pub(crate) fn step<S: FileSource>(
     next: &mut Vec<Word>,
 ) -> Result<WalkEnd, WalkStop>
     requires root { IsRootWord layout.now (root_level layout.now level) root }
-    requires found { AreFound layout.now.scheme words.old.items }
+    requires found { AreTilesOf layout.now words.old.items }
     requires next { AreRoots layout.now (level + 1) next.old.items }
     requires on_walk { IfSome (S.told files.old) (λ all. IsWalked (scene_of all layout.now) region.now level root) }
     ensures walks { IfSome (S.told files.old)
@@ -46,9 +45,9 @@ pub(crate) fn step<S: FileSource>(
     ensures roots { IfSome (S.told files.old) (λ all. IfOk result (λ end. end ≡ WalkEnd.Partial
         → map (word_tile_of layout.now.scheme) next.new.items ≡ map (word_tile_of layout.now.scheme) next.old.items
         ++ next_roots (scene_of all layout.now) region.now level (word_tile_of layout.now.scheme root))) }
-    ensures found { IfOk result (λ end. AreFound layout.now.scheme words.new.items) }
+    ensures found { IfOk result (λ end. AreTilesOf layout.now words.new.items) }
     ensures next { IfOk result (λ end. AreRoots layout.now (level + 1) next.new.items) }
-    ensures end { IfOk result (EndsAtRoot layout.now.scheme) }
+    ensures end { IfOk result (EndsWithin layout.now) }
     ensures failed { result ≡ Err WalkStop.ReadFault → Rose (S.faults files.old) (S.faults files.new) }
     ensures sure { result ≢ Err WalkStop.ReadFault → S.faults files.new ≡ S.faults files.old }
     ensures later { S.faults files.old ≤ S.faults files.new }

@@ -1,5 +1,6 @@
 -- What a caller has to know of a walk and of the subtrees that it reads.
-use Rattle.std.proofs.Common.{◌≡◌, ℕ, ◌%◌, Option, Some, sym, ap, ◌∙◌, arith}
+use Rattle.std.proofs.Common.{◌≡◌, ℕ, ◌%◌, ◌≤◌, List, Option, Some, refl, sym, ap, subst, ◌∙◌, arith}
+use Rattle.std.specs.List.{All}
 use Rattle.std.proofs.lemmas.Option.{get_or_from_slice_get}
 use Rattle.std.proofs.lemmas.Bool.{eq-eqb}
 use Rattle.implicit_tiling.specs.declared.Scheme.{Scheme}
@@ -7,11 +8,16 @@ use Rattle.implicit_tiling.specs.Tile.{Tile}
 use Rattle.implicit_tiling.specs.Region.{Region}
 use Rattle.implicit_tiling.specs.Scene.{Layout}
 use Rattle.implicit_tiling.specs.Subtree.{Subtree, IsOf}
-use Rattle.implicit_tiling.specs.Code.{word, word_tile}
+use Rattle.implicit_tiling.specs.Limits.{most_subtree_fault}
+use Rattle.implicit_tiling.specs.Code.{word, word_tile, word_level, IsWord}
+use Rattle.tile_coords.specs.declared.walk_end.WalkEnd.{WalkEnd}
+use Rattle.tile_coords.specs.declared.walk_end.WalkEnd.TheVariants.{Partial, Complete, TooMany, Fault}
+use Rattle.tile_word.specs.Roots.{IsRootWord}
 use Rattle.tile_word.proofs.Tiles.{parts_have_their_word, word_tile_level, word_tile_is_tile}
-use Rattle.region_cursor.specs.Cursor.{Cursor, IsWalkOf, IsSameWalk, IsRootKey, FitsSubtree, Fits, cursor_key, next_root, root_level_of, HasNoOrphan}
+use Rattle.region_cursor.specs.Cursor.{Cursor, IsWalkOf, IsSameWalk, IsRootKey, FitsSubtree, Fits, EndsAtKey, cursor_key, next_root, root_level_of}
 use Rattle.implicit_tiling.specs.Availability.{local_level, IsRootOf}
 use Rattle.subtree_outcome.specs.Outcomes.{IsOutcomeAt}
+use Rattle.subtree_outcome.specs.Found.{IsTileWord, AreTileWords, IsFaultOf, EndsWithin}
 use Rattle.subtree_outcome.specs.declared.outcome.Outcome.{Outcome}
 use Rattle.subtree_outcome.specs.declared.outcome.Outcome.TheVariants.{Good, Bad}
 
@@ -55,10 +61,37 @@ outcome_fits layout region c key (Good st) is at root found =
     subtree_fits layout region c key st is at root found.of_layout (found.at_root ∙ ap (λ (e : Scheme). word_tile e key) (sym is.same_scheme))
 outcome_fits layout region c key (Bad n) is at root found = tt
 
--- and it has no orphan
-pub read_whole : (layout : Layout) (root : Tile) (found : Outcome) → IsOutcomeAt layout root found → HasNoOrphan found
-read_whole layout root (Good st) found = found.no_orphan
-read_whole layout root (Bad n) found = tt
+-- the words of a step, by the layout
+pub words_of_the_layout : (layout : Layout) (region : Region) (c : Cursor) (words : List ℕ) → IsWalkOf layout region c → All (IsTileWord c.scheme c.levels c.contents) words
+    → AreTileWords layout words
+words_of_the_layout layout region c words is are =
+    let a = subst (λ (e : Scheme). All (IsTileWord e c.levels c.contents) words) is.same_scheme are in
+    let b = subst (λ n. All (IsTileWord layout.scheme n c.contents) words) is.same_levels a in
+    subst (λ n. All (IsTileWord layout.scheme layout.levels n) words) is.same_contents b
+
+-- the key of the next step is one of the layout's
+pub key_is : (layout : Layout) (region : Region) (c : Cursor) (key : ℕ) → IsWalkOf layout region c → IsRootKey c key → IsRootWord layout (word_level key) key
+key_is layout region c key of_layout root = record {
+  is_word = subst (λ (e : Scheme). IsWord e key) of_layout.same_scheme root.root.is_word;
+  no_mask = root.root.no_contents;
+  at_level = refl;
+  below = omega (arith, root.root.at_level, root.below, of_layout.same_levels);
+  at_start = subst (λ n. word_level key % n ≡ 0) of_layout.same_subtree_levels (ap (λ l. l % c.subtree_levels) root.root.at_level ∙ root.at_start);
+}
+
+-- the fault of what is read
+fault_of_read : (layout : Layout) (region : Region) (c : Cursor) (root : Tile) (found : Outcome) (w n : ℕ) → IsWalkOf layout region c → IsOutcomeAt layout root found
+    → IsRootKey c w → found ≡ Bad n → IsFaultOf layout w n
+fault_of_read layout region c root found w n is read key same =
+    let own : (1 ≤ n) × (n ≤ most_subtree_fault) = subst (IsOutcomeAt layout root) same read in
+    record { root = key_is layout region c w is key; some = own.0; most = own.1 }
+
+pub ends_within : (layout : Layout) (region : Region) (c : Cursor) (root : Tile) (found : Outcome) (end : WalkEnd) → IsWalkOf layout region c → IsOutcomeAt layout root found
+    → EndsAtKey c found end → EndsWithin layout end
+ends_within layout region c root found Partial is read ends = tt
+ends_within layout region c root found Complete is read ends = tt
+ends_within layout region c root found TooMany is read ends = tt
+ends_within layout region c root found (Fault w n) is read ends = fault_of_read layout region c root found w n is read ends.0 ends.1
 
 -- the tile of a next key
 pub key_is_of_a_root_tile : (layout : Layout) (region : Region) (c : Cursor) (key : ℕ) → IsWalkOf layout region c → IsRootKey c key → IsRootOf layout (word_tile layout.scheme key)

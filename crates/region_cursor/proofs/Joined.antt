@@ -21,24 +21,17 @@ use Rattle.walk_laws.specs.Stepped.{last_end}
 use Rattle.walk_laws.proofs.StepLaw.{steps_have_the_tiles, steps_end_as_the_answer}
 use Rattle.subtree_outcome.specs.declared.outcome.Outcome.{Outcome}
 use Rattle.subtree_outcome.specs.declared.outcome.Outcome.TheVariants.{Good, Bad}
-use Rattle.region_cursor.specs.Cursor.{Cursor, IsWalkOf, IsRootKey, IsTileWord, cursor_key, local_level_of, is_last_local}
+use Rattle.region_cursor.specs.Cursor.{Cursor, IsWalkOf, IsRootKey, cursor_key, local_level_of, is_last_local}
 use Rattle.region_cursor.specs.Moves.{over, level_after, pair_after, moved_on, end_by_key, room, counted, with_children, made_by, made}
 use Rattle.tile_word.specs.Roots.{IsRootWord}
 use Rattle.walk_laws.specs.Plans.{IsRegionOf}
-use Rattle.tile_word.specs.Answers.{AreFound, IsAnswer}
+use Rattle.tile_word.specs.Answers.{IsAnswer}
+use Rattle.subtree_outcome.specs.Found.{IsTileWord, AreTilesOf, EndsWithin}
+use Rattle.subtree_outcome.proofs.Found.{tiles_more, ends_at_root}
+use Rattle.region_cursor.proofs.Callers.{words_of_the_layout}
 use Rattle.tile_word.proofs.Ends.{end_of_words}
 use Rattle.region_cursor.specs.Walked.{IsAt, IsNextKey, GivesStep}
 use Rattle.region_cursor.specs.Joined.{tiles_of_steps, HasWalked}
-
--- the key of the next step is one of the layout's
-pub key_is : (layout : Layout) (region : Region) (c : Cursor) (key : ℕ) → IsWalkOf layout region c → IsRootKey c key → IsRootWord layout (word_level key) key
-key_is layout region c key of_layout root = record {
-  is_word = subst (λ (e : Scheme). IsWord e key) of_layout.same_scheme root.root.is_word;
-  no_mask = root.root.no_contents;
-  at_level = refl;
-  below = omega (arith, root.root.at_level, root.below, of_layout.same_levels);
-  at_start = subst (λ n. word_level key % n ≡ 0) of_layout.same_subtree_levels (ap (λ l. l % c.subtree_levels) root.root.at_level ∙ root.at_start);
-}
 
 -- a step that leaves no key has ended the walk
 by_key : (found : Option ℕ) → end_by_key found ≡ Partial → found ≡ None → ⊥
@@ -132,13 +125,10 @@ step_leaves c (Good st) key at low =
 step_leaves c (Bad number) key at low = leaves c c (over c) [] refl refl refl refl (sym (add-zero c.count)) (falls_over c low (slice_get_within c.roots c.position key at))
 
 -- the words that are found
-pub found_more : (scheme own : Scheme) (contents count : ℕ) (words more all : List ℕ) → AreFound scheme words → count ≡ length words → own ≡ scheme
-    → All (IsTileWord own contents) more → count + length more ≤ most_tiles → all ≡ words ++ more → AreFound scheme all
-found_more scheme own contents count words more all found counts same are few is = record {
-  are_words = subst (λ ws. All (IsWord scheme) ws) (sym is)
-      (All-append (IsWord scheme) words more found.are_words (λ k d h. subst (λ (e : Scheme). IsWord e (get_or more k d)) same (are k d h).is_word));
-  few = omega (arith, few, counts, ap length is, length-append words more);
-}
+pub found_more : (layout : Layout) (region : Region) (c : Cursor) (words more all : List ℕ) → AreTilesOf layout words → c.count ≡ length words → IsWalkOf layout region c
+    → All (IsTileWord c.scheme c.levels c.contents) more → c.count + length more ≤ most_tiles → all ≡ words ++ more → AreTilesOf layout all
+found_more layout region c words more all found counts of are few is =
+    tiles_more layout words more all found (words_of_the_layout layout region c more of are) (omega (arith, few, counts)) is
 
 -- the end of a list with one step more
 last_of : (e : StepEnd) (xs : List Step) (x : Step) → last_end e (xs ++ x ∷ []) ≡ x.end
@@ -189,7 +179,7 @@ one_more_made s region c after next later words more end last w None at gives st
 one_more_made s region c after next later words more end last w (Some x) at gives stands key all is = refl
 
 -- a walk without a next key has the answer
-pub is_answer : (s : Scene) (region : Region) (c : Cursor) (words : List ℕ) (end : WalkEnd) → HasWalked s region c None words end → EndsAtRoot s.layout.scheme end → 1 ≤ s.layout.subtree_levels → IsRegionOf s.layout region
+pub is_answer : (s : Scene) (region : Region) (c : Cursor) (words : List ℕ) (end : WalkEnd) → HasWalked s region c None words end → EndsWithin s.layout end → 1 ≤ s.layout.subtree_levels → IsRegionOf s.layout region
     → IsAnswer s region words end
 is_answer s region c words end w root some is =
     let all : take w.made (steps s region) ≡ steps s region = take_all w.made (steps s region) (omega (arith, w.next_is)) in
@@ -198,7 +188,7 @@ is_answer s region c words end w root some is =
     record {
       words_are = w.words_are ∙ ap (λ xs. map (tile_word s) (tiles_of_steps xs)) all ∙ ap (map (tile_word s)) (steps_have_the_tiles s region some);
       end_is = end_is;
-      end_by_word = end_of_words s.layout.scheme end (answer s region).end root end_is;
+      end_by_word = end_of_words s.layout.scheme end (answer s region).end (ends_at_root s.layout end root) end_is;
     }
 
 pub leaves_after : (c after : Cursor) (found : Outcome) (key : ℕ) (words : List ℕ) → cursor_key c ≡ Some key → c.level ≤ c.region.level → after ≡ (made c found).after → words ≡ (made c found).words

@@ -1,6 +1,6 @@
 -- The roots of a state from level to level.
-use Rattle.std.proofs.Common.{◌≡◌, ℕ, ◌+◌, ◌-◌, ◌%◌, ◌^◌, ◌<◌, ◌≤◌, Bool, true, false, List, [], ◌++◌, Option, Some, None, sym, ap, subst, ◌∙◌, arith}
-use Rattle.std.specs.Prelude.{◌==◌, IfSome}
+use Rattle.std.proofs.Common.{◌≡◌, ℕ, ◌+◌, ◌-◌, ◌%◌, ◌^◌, ◌<◌, ◌≤◌, Bool, true, false, List, [], ◌++◌, Option, Some, None, length, take, refl, sym, ap, subst, ◌∙◌, arith}
+use Rattle.std.specs.Prelude.{◌==◌, nat_lt, IfSome, IsSome}
 use Rattle.std.specs.List.{All}
 use Rattle.std.proofs.lemmas.Nat.{mod_below}
 use Rattle.std.proofs.lemmas.Bool.{eqb-true, eqb-false}
@@ -10,10 +10,14 @@ use Rattle.implicit_tiling.specs.declared.Scheme.{Scheme}
 use Rattle.implicit_tiling.specs.Region.{Region}
 use Rattle.implicit_tiling.specs.Subtree.{Subtree, IsSubtree}
 use Rattle.implicit_tiling.specs.Code.{word}
-use Rattle.implicit_tiling.specs.Nodes.{child_words}
+use Rattle.implicit_tiling.specs.Nodes.{level_words, child_words}
+use Rattle.tile_coords.specs.declared.walk_end.WalkEnd.{WalkEnd}
+use Rattle.subtree_outcome.specs.declared.outcome.Outcome.{Outcome}
+use Rattle.subtree_outcome.specs.declared.outcome.Outcome.TheVariants.{Bad}
 use Rattle.walk_laws.proofs.Segments.{at_start, local_low, local_of}
 use Rattle.tile_word.proofs.Tiles.{level_of_word}
-use Rattle.region_cursor.specs.Cursor.{Cursor, IsCursor, IsRootAt, IsRootKey, FitsSubtree, is_last_local, root_level_of, cursor_key}
+use Rattle.region_cursor.specs.Cursor.{Cursor, IsCursor, IsRootAt, IsRootKey, EndsAtKey, FitsSubtree, is_last_local, local_level_of, root_level_of, cursor_key}
+use Rattle.region_cursor.specs.Moves.{moved_on, end_by_key, with_children, counted, room, made_by, made_good, made_bad}
 use Rattle.region_cursor.proofs.Words.{child_words_are_words}
 use Rattle.region_cursor.proofs.Passing.{begins_below}
 
@@ -51,6 +55,29 @@ children_are_next c st region is fits limits =
     let level : st.root.level + st.levels ≡ root_level_of c + c.subtree_levels = omega (arith, own, key.at_level, fits.same_levels) in
     subst (λ (e : Scheme). All (IsRootAt e (root_level_of c + c.subtree_levels)) (child_words st region)) fits.same_scheme
     (roots_at st.scheme (child_words st region) (st.root.level + st.levels) (root_level_of c + c.subtree_levels) level (child_words_are_words st region limits))
+
+-- the ends of a step, by its key
+fault_at : (c : Cursor) (n : ℕ) (found : Option ℕ) → IsCursor c → cursor_key c ≡ found → IsSome found → EndsAtKey c (Bad n) (made_bad c n).end
+fault_at c n None is at some = cc
+fault_at c n (Some key) is at some = (subst (IsRootKey c) (sym (get_or_from_slice_get c.roots c.position key 0 at)) (key_is_root c key is at), refl)
+
+pub faulty_ends : (c : Cursor) (n : ℕ) (end : WalkEnd) → IsCursor c → IsSome (cursor_key c) → end ≡ (made_bad c n).end → EndsAtKey c (Bad n) end
+faulty_ends c n end is some made = subst (EndsAtKey c (Bad n)) (sym made) (fault_at c n (cursor_key c) is refl some)
+
+by_key : (c : Cursor) (o : Outcome) (next : Option ℕ) → EndsAtKey c o (end_by_key next)
+by_key c o None = tt
+by_key c o (Some key) = tt
+
+by_more : (c : Cursor) (o : Outcome) (more : Bool) (words : List ℕ) (after : Cursor) → EndsAtKey c o (made_by more words after).end
+by_more c o true words after = tt
+by_more c o false words after = by_key c o (cursor_key (moved_on after))
+
+pub good_ends : (c : Cursor) (o : Outcome) (st : Subtree) (end : WalkEnd) → end ≡ (made_good c st).end → EndsAtKey c o end
+good_ends c o st end made =
+    let found = level_words st c.region (local_level_of c) in
+    let words = take (room c) found in
+    let more = nat_lt (room c) (length found) in
+    subst (EndsAtKey c o) (sym made) (by_more c o more words (counted words (with_children more c (child_words st c.region))))
 
 pub found_is_root : (c : Cursor) (found : Option ℕ) → found ≡ cursor_key c → IsCursor c → IfSome found (IsRootKey c)
 found_is_root c None same is = tt

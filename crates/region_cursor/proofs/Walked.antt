@@ -15,7 +15,7 @@ use Rattle.implicit_tiling.specs.Region.{Region, Plan}
 use Rattle.implicit_tiling.specs.Scene.{Layout, Scene, good, bad, fault_of}
 use Rattle.implicit_tiling.specs.Availability.{local_level, is_subtree_root, is_reached}
 use Rattle.implicit_tiling.specs.Answer.{most_tiles, too_many, fault}
-use Rattle.implicit_tiling.specs.Subtree.{Subtree, IsSubtree, bits_of, has_orphan}
+use Rattle.implicit_tiling.specs.Subtree.{Subtree, IsSubtree, IsOf, bits_of}
 use Rattle.implicit_tiling.specs.Code.{word, word_tile, tile_word}
 use Rattle.implicit_tiling.specs.Nodes.{level_words, child_words}
 use Rattle.implicit_tiling.specs.Steps.{pair_of, walk_roots, segment, pair_fault, last_or_not, ended, Step, step_then, steps, steps_from}
@@ -35,10 +35,10 @@ use Rattle.walk_laws.proofs.WalkRoots.{child_words_are_root_words}
 use Rattle.walk_laws.proofs.Pairs.{pairs_more, pairs_go_down, roots_of_inner_levels, fault_at_own_level, no_fault_of_good}
 use Rattle.subtree_outcome.specs.declared.outcome.Outcome.{Outcome}
 use Rattle.subtree_outcome.specs.declared.outcome.Outcome.TheVariants.{Good, Bad}
-use Rattle.region_cursor.specs.Cursor.{Cursor, local_level_of, is_last_local, cursor_key, next_root, FitsSubtree, Fits, HasNoOrphan}
+use Rattle.region_cursor.specs.Cursor.{Cursor, local_level_of, is_last_local, cursor_key, next_root, FitsSubtree, Fits}
 use Rattle.walk_laws.specs.Plans.{FitsLayout}
 use Rattle.region_cursor.specs.Moves.{begun, over, moved_on, end_by_key, Made, went_on, children_if, with_children, counted, room, made_by, made_good, made_bad, made}
-use Rattle.subtree_outcome.specs.Outcomes.{outcome_seen}
+use Rattle.subtree_outcome.specs.Outcomes.{outcome_seen, HasNoOrphans}
 use Rattle.region_cursor.specs.Walked.{root_word, pairs_done, found_below, IsUnderWay, IsAt, GivesStep}
 use Rattle.region_cursor.proofs.Places.{row, root_here, pair_here, rest_here, done_here, done_more, place_of_key, key_here, is_under_way, IsStep, step_here, root_is_on_walk}
 use Rattle.region_cursor.proofs.Passing.{nothing_below, Counted, to_next}
@@ -209,21 +209,26 @@ subtree_root_is s region k c st on h fits is =
     ∙ ap (λ (e : Scheme). word_tile e (root_word s r)) (fits.same_scheme ∙ on.of_scene.same_scheme)
     ∙ tile_of_word s.layout.scheme r 0 (root_has_word s region k c on h) short
 
+of_layout_here : (s : Scene) (region : Region) (k : ℕ) (c : Cursor) (st : Subtree) → IsUnderWay s region k c → FitsSubtree c st → IsOf s.layout st
+of_layout_here s region k c st on fits = record {
+  same_scheme = fits.same_scheme ∙ on.of_scene.same_scheme;
+  same_levels = fits.same_levels ∙ on.of_scene.same_subtree_levels;
+  same_cut = fits.same_cut ∙ on.of_scene.same_levels;
+  contents_named = omega (arith, fits.contents_named, on.of_scene.same_contents);
+  root_at_start = sym (ap (λ n. st.root.level % n) on.of_scene.same_subtree_levels) ∙ fits.root_at_start;
+}
+
 is_decoded : (s : Scene) (region : Region) (k : ℕ) (c : Cursor) (st : Subtree) → IsUnderWay s region k c → c.position < length (row s region c)
-    → FitsSubtree c st → has_orphan st ≡ false → IsSubtree st → good (bits_of st) ≡ s.outcome (next_root c) → IsDecoded s st
+    → FitsSubtree c st → HasNoOrphans s → IsSubtree st → good (bits_of st) ≡ s.outcome (next_root c) → IsDecoded s st
 is_decoded s region k c st on h fits whole is same =
     let here = subtree_root_is s region k c st on h fits is in
+    let of = of_layout_here s region k c st on fits in
+    let bits : s.outcome st.root ≡ good (bits_of st) = ap s.outcome (here ∙ sym (next_root_is s region k c on h)) ∙ sym same in
     record {
       within_limits = is;
-      of_layout = record {
-        same_scheme = fits.same_scheme ∙ on.of_scene.same_scheme;
-        same_levels = fits.same_levels ∙ on.of_scene.same_subtree_levels;
-        same_cut = fits.same_cut ∙ on.of_scene.same_levels;
-        contents_named = omega (arith, fits.contents_named, on.of_scene.same_contents);
-        root_at_start = sym (ap (λ n. st.root.level % n) on.of_scene.same_subtree_levels) ∙ fits.root_at_start;
-      };
-      no_orphan = whole;
-      same_bits = ap s.outcome (here ∙ sym (next_root_is s region k c on h)) ∙ sym same;
+      of_layout = of;
+      no_orphan = whole st of bits;
+      same_bits = bits;
       reached = ap (is_reached s) here ∙ (root_is_on_walk s region c h).reached;
     }
 
@@ -233,7 +238,7 @@ record SubtreeHere (s : Scene) (region : Region) (c : Cursor) (st : Subtree) : T
   children : child_words st c.region ≡ map (root_word s) (roots_below s region (root_here s region c))
 
 subtree_here : (s : Scene) (region : Region) (k : ℕ) (c : Cursor) (st : Subtree) → IsUnderWay s region k c → c.position < length (row s region c)
-    → FitsSubtree c st → has_orphan st ≡ false → IsSubtree st → good (bits_of st) ≡ s.outcome (next_root c) → SubtreeHere s region c st
+    → FitsSubtree c st → HasNoOrphans s → IsSubtree st → good (bits_of st) ≡ s.outcome (next_root c) → SubtreeHere s region c st
 subtree_here s region k c st on h fits whole is same =
     let here = subtree_root_is s region k c st on h fits is in
     let decoded = is_decoded s region k c st on h fits whole is same in
@@ -277,7 +282,7 @@ makes_of s region k c st false on h is over =
     (all ∙ is.words)
 
 makes_good : (s : Scene) (region : Region) (k : ℕ) (c : Cursor) (st : Subtree) → IsUnderWay s region k c → c.position < length (row s region c)
-    → FitsSubtree c st → has_orphan st ≡ false → IsSubtree st → good (bits_of st) ≡ s.outcome (next_root c) → MakesStep s region k (made_good c st)
+    → FitsSubtree c st → HasNoOrphans s → IsSubtree st → good (bits_of st) ≡ s.outcome (next_root c) → MakesStep s region k (made_good c st)
 makes_good s region k c st on h fits whole is same =
     makes_of s region k c st (nat_lt (room c) (length (level_words st c.region (local_level_of c)))) on h (subtree_here s region k c st on h fits whole is same) refl
 
@@ -325,7 +330,7 @@ HasLimits (Good st) = IsSubtree st
 HasLimits (Bad n) = Unit {0}
 
 makes_by : (s : Scene) (region : Region) (k : ℕ) (c : Cursor) (key : ℕ) (o : Outcome) → IsAt s region k c → cursor_key c ≡ Some key
-    → Fits c o → HasNoOrphan o → HasLimits o → outcome_seen o ≡ s.outcome (next_root c) → MakesStep s region k (made c o)
+    → Fits c o → HasNoOrphans s → HasLimits o → outcome_seen o ≡ s.outcome (next_root c) → MakesStep s region k (made c o)
 makes_by s region k c key (Good st) is at fits whole limits same =
     let on = is_under_way s region k c key is at in
     makes_good s region k c st on (place_of_key s region k c key on at) fits whole limits same
@@ -341,7 +346,7 @@ some_key (Some key) is = (key, refl)
 some_key None is = cc
 
 pub makes_step : (s : Scene) (region : Region) (k : ℕ) (c : Cursor) (o : Outcome) → IsAt s region k c → IsSome (cursor_key c)
-    → Fits c o → HasNoOrphan o → HasLimits o → outcome_seen o ≡ s.outcome (next_root c) → MakesStep s region k (made c o)
+    → Fits c o → HasNoOrphans s → HasLimits o → outcome_seen o ≡ s.outcome (next_root c) → MakesStep s region k (made c o)
 makes_step s region k c o is some fits whole limits same =
     let key = some_key (cursor_key c) some in
     makes_by s region k c key.0 o is key.1 fits whole limits same
@@ -363,7 +368,7 @@ begins s region some some_levels few_levels is = record {
 -- a step as it was made
 pub makes_as_given : (s : Scene) (region : Region) (k : ℕ) (c : Cursor) (o : Outcome) (words : List ℕ) (end : WalkEnd) (after : Cursor)
     → words ≡ (made c o).words → end ≡ (made c o).end → after ≡ (made c o).after
-    → IsAt s region k c → IsSome (cursor_key c) → Fits c o → HasNoOrphan o → HasLimits o → outcome_seen o ≡ s.outcome (next_root c)
+    → IsAt s region k c → IsSome (cursor_key c) → Fits c o → HasNoOrphans s → HasLimits o → outcome_seen o ≡ s.outcome (next_root c)
     → GivesStep s region k words end × IsAt s region (k + 1) after
 makes_as_given s region k c o words end after words_are end_is after_is is some fits whole limits same =
     let m = makes_step s region k c o is some fits whole limits same in (

@@ -20,7 +20,11 @@ use Rattle.tiling_laws.proofs.TileAt.{tile_at_level}
 use Rattle.availability.proofs.Masks.{mask_below}
 use Rattle.tile_word.proofs.Tiles.{word_is_word, mask_of_word, level_of_word}
 use Rattle.walk_laws.proofs.Decoded.{of_tiles_in}
-use Rattle.region_cursor.specs.Cursor.{Cursor, local_level_of, IsRootAt, IsTileWord, FitsSubtree}
+use Rattle.region_scan.specs.NodeLaws.{IsNodeWord}
+use Rattle.region_scan.proofs.NodeWords.{found_words_are_words}
+use Rattle.subtree_outcome.specs.Found.{IsTileWord}
+use Rattle.subtree_outcome.proofs.Found.{tile_word_is}
+use Rattle.region_cursor.specs.Cursor.{Cursor, local_level_of, IsRootAt, FitsSubtree}
 use Rattle.region_cursor.specs.Moves.{with_children, counted, room, made_by, made_good}
 
 mask_is_named : (st : Subtree) (l m : ℕ) → contents_mask st l m < 2 ^ length st.contents
@@ -37,19 +41,6 @@ pub root_word_is_root : (scheme : Scheme) (t : Tile) (level : ℕ) → t.level �
 root_word_is_root scheme t level at low =
     let short : 0 < 2 ^ 16 = omega arith in
     record { is_word = word_is_word scheme t 0 low short; no_contents = mask_of_word scheme t 0 low short; at_level = level_of_word scheme t 0 low short ∙ at }
-
-pub level_words_are_words : (st : Subtree) (region : Region) (l : ℕ) → IsSubtree st → All (IsTileWord st.scheme (length st.contents)) (level_words st region l)
-level_words_are_words st region l is =
-    All-map (IsTileWord st.scheme (length st.contents)) (node_word st l) (tiles_in st region l)
-    (of_tiles_in (λ m. IsTileWord st.scheme (length st.contents) (node_word st l m)) st region l
-    (λ m h there within. let kept = ltb-true (st.root.level + l) st.cut (and_parts (is_kept st l) (bit_at st.tiles (nodes_above st.scheme l + m)) there).0 in
-    let level = tile_at_level st.scheme (st.root.level + l) (index st.scheme st.root * branching st.scheme ^ l + m) in
-    let low : (node_at st l m).level < most_levels st.scheme = omega (arith, kept, level, is.few_levels_in_all) in
-    let byte = mask_is_short st l m is in
-    record {
-      is_word = word_is_word st.scheme (node_at st l m) (contents_mask st l m) low byte;
-      of_contents = let P : ℕ → Type 0 = λ n. n < 2 ^ length st.contents in subst P (sym (mask_of_word st.scheme (node_at st l m) (contents_mask st l m) low byte)) (mask_is_named st l m);
-    }))
 
 pub child_words_are_words : (st : Subtree) (region : Region) → IsSubtree st → All (IsRootAt st.scheme (st.root.level + st.levels)) (child_words st region)
 child_words_are_words st region is =
@@ -68,18 +59,17 @@ made_by_words : (more : Bool) (words : List ℕ) (c : Cursor) → (made_by more 
 made_by_words true words c = refl
 made_by_words false words c = refl
 
-more_contents : (scheme : Scheme) (few many : ℕ) → few ≤ many → (w : ℕ) → IsTileWord scheme few w → IsTileWord scheme many w
-more_contents scheme few many le w is = record { is_word = is.is_word; of_contents = omega (arith, is.of_contents, pow_mono {i = few} {j = many} le) }
-
-pub words_of_step : (c : Cursor) (st : Subtree) → FitsSubtree c st → IsSubtree st → All (IsTileWord c.scheme c.contents) (made_good c st).words
+pub words_of_step : (c : Cursor) (st : Subtree) → FitsSubtree c st → IsSubtree st → All (IsTileWord c.scheme c.levels c.contents) (made_good c st).words
 words_of_step c st fits is =
-    let found = level_words st c.region (local_level_of c) in
+    let l = local_level_of c in
+    let found = level_words st c.region l in
     let more = nat_lt (room c) (length found) in
     let words = take (room c) found in
-    let own = All-take (IsTileWord st.scheme (length st.contents)) (room c) found (level_words_are_words st c.region (local_level_of c) is) in
-    let named = subst (λ (e : Scheme). All (IsTileWord e (length st.contents)) words) fits.same_scheme own in
-    let few = All-weaker (IsTileWord c.scheme (length st.contents)) (IsTileWord c.scheme c.contents) (more_contents c.scheme (length st.contents) c.contents fits.contents_named) words named in
-    All-same (IsTileWord c.scheme c.contents) (made_good c st).words words (made_by_words more words (counted words (with_children more c (child_words st c.region)))) few
+    let nodes = All-take (IsNodeWord st c.region l (2 ^ length st.contents)) (room c) found ((found_words_are_words st c.region is).tiles l) in
+    let tiles = All-weaker (IsNodeWord st c.region l (2 ^ length st.contents)) (IsTileWord c.scheme c.levels c.contents)
+    (λ w node. tile_word_is st.scheme c.scheme st.cut c.levels (length st.contents) c.contents w fits.same_scheme fits.same_cut fits.contents_named node.is_word node.below_cut node.mask)
+    words nodes in
+    All-same (IsTileWord c.scheme c.levels c.contents) (made_good c st).words words (made_by_words more words (counted words (with_children more c (child_words st c.region)))) tiles
 
 pub few_of_step : (c : Cursor) (st : Subtree) → c.count ≤ most_tiles → c.count + length (made_good c st).words ≤ most_tiles
 few_of_step c st few =

@@ -1,5 +1,5 @@
 -- The state of a paused walk (this project's own).
-use Rattle.std.specs.Prelude.{ℕ, ◌≡◌, ◌+◌, ◌-◌, ◌%◌, ◌^◌, ◌<◌, ◌≤◌, ◌==◌, Bool, false, List, length, Option, Some}
+use Rattle.std.specs.Prelude.{ℕ, ◌≡◌, ◌+◌, ◌-◌, ◌%◌, ◌<◌, ◌≤◌, ◌==◌, Bool, List, length, Option, Some}
 use Rattle.std.specs.Prelude.{slice_get, slice_index}
 use Rattle.std.specs.List.{All}
 use Rattle.implicit_tiling.specs.declared.Scheme.{Scheme}
@@ -7,9 +7,11 @@ use Rattle.implicit_tiling.specs.Limits.{most_levels, most_contents}
 use Rattle.implicit_tiling.specs.Tile.{Tile}
 use Rattle.implicit_tiling.specs.Region.{Region}
 use Rattle.implicit_tiling.specs.Scene.{Layout}
-use Rattle.implicit_tiling.specs.Subtree.{Subtree, has_orphan}
+use Rattle.implicit_tiling.specs.Subtree.{Subtree}
 use Rattle.implicit_tiling.specs.Answer.{most_tiles}
 use Rattle.implicit_tiling.specs.Code.{word, word_tile, word_level, word_mask, IsWord}
+use Rattle.tile_coords.specs.declared.walk_end.WalkEnd.{WalkEnd}
+use Rattle.tile_coords.specs.declared.walk_end.WalkEnd.TheVariants.{Partial, Complete, TooMany, Fault}
 use Rattle.subtree_outcome.specs.declared.outcome.Outcome.{Outcome}
 use Rattle.subtree_outcome.specs.declared.outcome.Outcome.TheVariants.{Good, Bad}
 
@@ -43,11 +45,6 @@ pub record IsRootAt (scheme : Scheme) (level w : ℕ) : Type 0 where
   pub is_word : IsWord scheme w
   pub no_contents : word_mask w ≡ 0
   pub at_level : word_level w ≡ level
-
--- the word of a tile, with a mask of so many contents
-pub record IsTileWord (scheme : Scheme) (contents w : ℕ) : Type 0 where
-  pub is_word : IsWord scheme w
-  pub of_contents : word_mask w < 2 ^ contents
 
 -- the limits of each state, and what its words are
 pub record IsCursor (c : Cursor) : Type 0 where
@@ -104,7 +101,9 @@ abbrev pub Fits : Cursor → Outcome → Type 0
 Fits c (Good subtree) = FitsSubtree c subtree
 Fits c (Bad number) = Unit {0}
 
--- no node of the subtree is an orphan, as in each file without a fault
-abbrev pub HasNoOrphan : Outcome → Type 0
-HasNoOrphan (Good subtree) = has_orphan subtree ≡ false
-HasNoOrphan (Bad number) = Unit {0}
+-- a fault has the root that the step reads, and the number of the outcome
+abbrev pub EndsAtKey : Cursor → Outcome → WalkEnd → Type 0
+EndsAtKey c found Partial = Unit {0}
+EndsAtKey c found Complete = Unit {0}
+EndsAtKey c found TooMany = Unit {0}
+EndsAtKey c found (Fault root number) = IsRootKey c root × (found ≡ Bad number)

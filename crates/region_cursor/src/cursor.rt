@@ -6,12 +6,12 @@ ghost use Rattle.implicit_tiling.specs.Scene.{Scene};
 ghost use Rattle.implicit_tiling.specs.Subtree.{IsSubtree};
 ghost use Rattle.implicit_tiling.specs.Answer.{most_tiles};
 ghost use Rattle.implicit_tiling.specs.Nodes.{child_words};
-ghost use Rattle.tile_coords.specs.Ends.{EndsAtRoot};
-ghost use Rattle.subtree_outcome.specs.Outcomes.{outcome_seen};
+ghost use Rattle.subtree_outcome.specs.Outcomes.{outcome_seen, HasNoOrphans};
+ghost use Rattle.subtree_outcome.specs.Found.{IsTileWord};
 ghost use Rattle.walk_laws.specs.Plans.{FitsLayout};
 ghost use Rattle.region_cursor.specs.Cursor.{local_level_of, is_last_local as is_last_local_of, cursor_key};
-ghost use Rattle.region_cursor.specs.Cursor.{next_root, Fits, FitsSubtree, HasNoOrphan, IsCursor, IsRootKey};
-ghost use Rattle.region_cursor.specs.Cursor.{IsTileWord, IsWalkOf, IsSameWalk};
+ghost use Rattle.region_cursor.specs.Cursor.{next_root, Fits, FitsSubtree, EndsAtKey, IsCursor, IsRootKey};
+ghost use Rattle.region_cursor.specs.Cursor.{IsWalkOf, IsSameWalk};
 ghost use Rattle.region_cursor.specs.Moves.{begun, over, next_level, level_after, moved_on, went_on, with_children};
 ghost use Rattle.region_cursor.specs.Moves.{made, made_good, made_bad};
 ghost use Rattle.region_cursor.specs.Walked.{IsAt, IsNextKey, GivesStep};
@@ -131,15 +131,16 @@ impl CursorState {
         ensures after { IfOk result (λ end. self.new ≡ (made self.old outcome.now).after) }
 
         ensures few { IfOk result (λ end. self.old.count + length words.new.items ≤ most_tiles) }
-        ensures are_words { IfOk result (λ end. All (IsTileWord self.old.scheme self.old.contents) words.new.items) }
-        ensures root { IfOk result (EndsAtRoot self.old.scheme) }
+        ensures are_words { IfOk result
+            (λ end. All (IsTileWord self.old.scheme self.old.levels self.old.contents) words.new.items) }
+        ensures root { IfOk result (EndsAtKey self.old outcome.now) }
         ensures same { IfOk result (λ end. IsSameWalk self.old self.new) }
 
         ensures unchanged { IfErr result (λ e. self.new ≡ self.old) }
         ensures same_words { IfErr result (λ e. words.new.items ≡ words.old.items) }
 
-        ensures scene { IfOk result (λ end. (s : Scene) (k : ℕ) → IsAt s self.old.region k self.old
-            → outcome_seen outcome.now ≡ s.outcome (next_root self.old) → HasNoOrphan outcome.now
+        ensures scene { IfOk result (λ end. (s : Scene) (k : ℕ) → HasNoOrphans s → IsAt s self.old.region k self.old
+            → outcome_seen outcome.now ≡ s.outcome (next_root self.old)
             → GivesStep s self.old.region k words.new.items end × IsAt s self.old.region (k + 1) self.new) }
     {
         match outcome {
@@ -187,7 +188,7 @@ impl CursorState {
         ensures end { result ≡ (made_bad self.old number).end }
         ensures after { self.new ≡ (made_bad self.old number).after }
         ensures given { self.old.count ≤ most_tiles }
-        ensures root { EndsAtRoot self.old.scheme result }
+        ensures limits { IsCursor self.old }
     {
         let root = self.roots[self.position];
         self.finish();

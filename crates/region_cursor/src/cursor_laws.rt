@@ -1,6 +1,6 @@
 // Laws for callers that read the files of a layout (this project's own).
 ghost use Rattle.region_cursor.specs.Laws.{WalksStay, NextRootIsOfTheKey, NextKeysAreOfRootTiles, OutcomesFit};
-ghost use Rattle.region_cursor.specs.Laws.{ReadOutcomesHaveNoOrphan};
+ghost use Rattle.region_cursor.specs.Laws.{WordsAreOfTheLayout, EndsAreWithinTheLayout};
 
 /// A walk stays one of its layout and region.
 pub fn a_walk_stays_of_its_layout()
@@ -22,7 +22,12 @@ pub fn an_outcome_of_the_key_fits()
     ensures { OutcomesFit }
 {}
 
-/// Nor has it an orphan: it is one over which a step follows a scene.
-pub fn an_outcome_that_is_read_has_no_orphan()
-    ensures { ReadOutcomesHaveNoOrphan }
+/// The words of a step are those of tiles of the layout, whatever the outcome holds.
+pub fn words_are_of_the_layout()
+    ensures { WordsAreOfTheLayout }
+{}
+
+/// The fault of a step over what is read, from any source, has a root of the layout and a number of the table.
+pub fn ends_are_within_the_layout()
+    ensures { EndsAreWithinTheLayout }
 {}

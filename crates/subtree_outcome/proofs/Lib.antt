@@ -1,3 +1,5 @@
 pub mod Stating
 pub mod Reading
 pub mod Counting
+pub mod Found
+pub mod Orphans

@@ -5,7 +5,7 @@ use Rattle.implicit_tiling.specs.Code.{word_tile}
 use Rattle.implicit_tileset.specs.Scene.{scene_of}
 use Rattle.implicit_tiling.specs.Limits.{most_subtree_fault}
 use Rattle.implicit_tiling.specs.Tile.{Tile}
-use Rattle.implicit_tiling.specs.Scene.{Layout, good, bad, Outcome as outcome}
+use Rattle.implicit_tiling.specs.Scene.{Layout, Scene, good, bad, Outcome as outcome}
 use Rattle.implicit_tiling.specs.Subtree.{Subtree, IsOf, has_orphan, bits_of}
 use Rattle.subtree_outcome.specs.declared.outcome.Outcome.{Outcome}
 use Rattle.subtree_outcome.specs.declared.outcome.Outcome.TheVariants.{Good, Bad}
@@ -30,3 +30,7 @@ IsOutcomeAt layout root (Bad n) = (1 ≤ n) × (n ≤ most_subtree_fault)
 pub record IsOutcomeOf (layout : Layout) (told : Option Files) (key : ℕ) (found : Outcome) : Type 0 where
   pub read : IsOutcomeAt layout (word_tile layout.scheme key) found
   pub of_scene : IfSome told (λ all. (scene_of all layout).outcome (word_tile layout.scheme key) ≡ outcome_seen found)
+
+-- a subtree of the layout that has the bits of its root's file has no orphan: such a file has a fault
+abbrev pub HasNoOrphans : Scene → Type 0
+HasNoOrphans s = (st : Subtree) → IsOf s.layout st → s.outcome st.root ≡ good (bits_of st) → has_orphan st ≡ false

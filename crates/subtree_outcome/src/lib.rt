@@ -2,6 +2,7 @@
 #![tactic(auto)]
 
 mod outcome;
+pub mod outcome_laws;
 mod root;
 
 pub use outcome::{Outcome, WalkStop, read_subtree};

@@ -1,16 +1,15 @@
 -- What a check of a whole tileset finds (this project's own).
 use Rattle.std.specs.Prelude.{ℕ, ◌≡◌, ◌+◌, ◌<◌, ◌≤◌, true, false, List, length, map}
 use Rattle.std.specs.List.{filter_map, All}
-use Rattle.implicit_tiling.specs.declared.Scheme.{Scheme}
-use Rattle.implicit_tiling.specs.Limits.{most_subtree_fault}
 use Rattle.implicit_tiling.specs.Region.{Region}
-use Rattle.implicit_tiling.specs.Scene.{Scene}
+use Rattle.implicit_tiling.specs.Scene.{Layout, Scene}
 use Rattle.implicit_tiling.specs.Answer.{is_on_walk, fault_at}
 use Rattle.implicit_tiling.specs.Checked.{most_roots, checked}
-use Rattle.implicit_tiling.specs.Code.{word_tile, IsWord}
+use Rattle.implicit_tiling.specs.Code.{word_tile}
 use Rattle.tile_coords.specs.declared.walk_end.FoundFault.{FoundFault}
 use Rattle.tile_coords.specs.declared.walk_end.CheckEnd.{CheckEnd}
 use Rattle.tile_coords.specs.Found.{found_of}
+use Rattle.subtree_outcome.specs.Found.{IsFaultOf}
 
 -- the faults of the files of some roots, in their order
 abbrev pub found_faults : Scene → List ℕ → List FoundFault
@@ -19,14 +18,12 @@ found_faults s roots = map (found_of s.layout.scheme) (filter_map (fault_at s) (
 abbrev pub IsOnWalk : Scene → Region → ℕ → Type 0
 IsOnWalk s region w = is_on_walk s region (word_tile s.layout.scheme w) ≡ true
 
--- each fault is that of a root's word, and has a number of the table
-pub record IsFault (scheme : Scheme) (fault : FoundFault) : Type 0 where
-  pub is_word : IsWord scheme fault.root
-  pub some : 1 ≤ fault.number
-  pub most : fault.number ≤ most_subtree_fault
+-- each fault is that of a root of the layout
+abbrev pub IsFault : Layout → FoundFault → Type 0
+IsFault layout fault = IsFaultOf layout fault.root fault.number
 
-abbrev pub AreFaults : Scheme → List FoundFault → Type 0
-AreFaults scheme found = All (IsFault scheme) found
+abbrev pub AreFaults : Layout → List FoundFault → Type 0
+AreFaults layout found = All (IsFault layout) found
 
 -- how many of so many roots were looked at, after some others: all, or up to the most where more follow
 pub record Counts (looked roots : ℕ) (end : CheckEnd) : Type 0 where

@@ -40,7 +40,7 @@ pub fn check_all<S: FileSource>(
 ) -> Result<CheckEnd, WalkStop>
     ensures checked { IfSome (S.told files.old)
         (λ all. IfOk result (IsCheck (scene_of all layout.now) found.new.items)) }
-    ensures faults { IfOk result (λ end. AreFaults layout.now.scheme found.new.items) }
+    ensures faults { IfOk result (λ end. AreFaults layout.now found.new.items) }
     ensures few { IfOk result (λ end. end.looked ≤ most_roots) }
     ensures unchanged { IfErr result (λ stop. found.new.items ≡ found.old.items) }
     ensures failed { result ≡ Err WalkStop.ReadFault → Rose (S.faults files.old) (S.faults files.new) }
@@ -86,7 +86,7 @@ fn check<S: FileSource>(
     requires empty { found.old.items ≡ [] }
     ensures checked { IfSome (S.told files.old)
         (λ all. IfOk result (IsCheck (scene_of all layout.now) found.new.items)) }
-    ensures faults { IfOk result (λ end. AreFaults layout.now.scheme found.new.items) }
+    ensures faults { IfOk result (λ end. AreFaults layout.now found.new.items) }
     ensures few { IfOk result (λ end. end.looked ≤ most_roots) }
     ensures failed { result ≡ Err WalkStop.ReadFault → Rose (S.faults files.old) (S.faults files.new) }
     ensures sure { result ≢ Err WalkStop.ReadFault → S.faults files.new ≡ S.faults files.old }
@@ -128,7 +128,7 @@ fn check_roots<S: FileSource>(
     requires roots { AreRoots layout.now (turn * layout.now.subtree_levels) roots.now }
     requires next { AreRoots layout.now (turn * layout.now.subtree_levels + layout.now.subtree_levels) next.old.items }
     requires kept { length next.old.items ≤ most_roots + 1 }
-    requires faults { AreFaults layout.now.scheme found.old.items }
+    requires faults { AreFaults layout.now found.old.items }
     requires few { looked ≤ most_roots }
     requires on_walk { IfSome (S.told files.old)
         (λ all. All (IsOnWalk (scene_of all layout.now) region.now) roots.now) }
@@ -142,7 +142,7 @@ fn check_roots<S: FileSource>(
         roots.now))) }
     ensures next { IfOk result
         (λ end. AreRoots layout.now (turn * layout.now.subtree_levels + layout.now.subtree_levels) next.new.items) }
-    ensures faults { IfOk result (λ end. AreFaults layout.now.scheme found.new.items) }
+    ensures faults { IfOk result (λ end. AreFaults layout.now found.new.items) }
     ensures counted { IfOk result (Counts looked (length roots.now)) }
     ensures failed { result ≡ Err WalkStop.ReadFault → Rose (S.faults files.old) (S.faults files.new) }
     ensures sure { result ≢ Err WalkStop.ReadFault → S.faults files.new ≡ S.faults files.old }
@@ -181,7 +181,7 @@ fn check_root<S: FileSource>(
     requires root { IsRootWord layout.now (word_level root) root }
     requires next { AreRoots layout.now (word_level root + layout.now.subtree_levels) next.old.items }
     requires kept { length next.old.items ≤ most_roots + 1 }
-    requires faults { AreFaults layout.now.scheme found.old.items }
+    requires faults { AreFaults layout.now found.old.items }
     requires on_walk { IfSome (S.told files.old) (λ all. IsOnWalk (scene_of all layout.now) region.now root) }
     ensures found { IfSome (S.told files.old)
         (λ all. IfOk result (λ done. found.new.items ≡ found.old.items ++ found_faults (scene_of all layout.now)
@@ -193,7 +193,7 @@ fn check_root<S: FileSource>(
     ensures next { IfOk result
         (λ done. AreRoots layout.now (word_level root + layout.now.subtree_levels) next.new.items) }
     ensures kept { IfOk result (λ done. length next.new.items ≤ most_roots + 1) }
-    ensures faults { IfOk result (λ done. AreFaults layout.now.scheme found.new.items) }
+    ensures faults { IfOk result (λ done. AreFaults layout.now found.new.items) }
     ensures failed { result ≡ Err WalkStop.ReadFault → Rose (S.faults files.old) (S.faults files.new) }
     ensures sure { result ≢ Err WalkStop.ReadFault → S.faults files.new ≡ S.faults files.old }
     ensures later { S.faults files.old ≤ S.faults files.new }

@@ -6,7 +6,8 @@ ghost use Rattle.implicit_tiling.specs.Limits.{most_contents};
 ghost use Rattle.implicit_tiling.specs.Code.{word_mask, IsWord};
 ghost use Rattle.implicit_tileset.specs.Scene.{scene_of};
 ghost use Rattle.walk_laws.specs.Regions.{whole};
-ghost use Rattle.tile_word.specs.Answers.{AreFound, IsAnswer};
+ghost use Rattle.tile_word.specs.Answers.{IsAnswer};
+ghost use Rattle.subtree_outcome.specs.Found.{AreTilesOf};
 ghost use Rattle.tile_occupancy.specs.Occupied.{IsOccupancy};
 ghost use Rattle.build_laws.specs.Holds.{HoldsTiles};
 ghost use Rattle.tileset_make.specs.Recipes.{recipe_layout, recipe_words, recipe_files, survey_of};
@@ -74,7 +75,7 @@ fn all_words(
     ensures answer { IfOk result (λ found. IfSome (⟦<SureFiles as FileSource>⟧.told files.old)
         (λ all. IsAnswer (scene_of all layout.now) (whole layout.now.scheme layout.now.levels) found.0.items
         found.1)) }
-    ensures found { IfOk result (λ found. AreFound layout.now.scheme found.0.items) }
+    ensures found { IfOk result (λ found. AreTilesOf layout.now found.0.items) }
 {
     let mut words = Vec::new(alloc);
     let plan = whole_plan(layout);

@@ -6,10 +6,10 @@ use Rattle.implicit_tiling.specs.Code.{word_tile}
 use Rattle.implicit_tileset.specs.Scene.{scene_of}
 use Rattle.region_cursor.specs.Cursor.{IsRootKey, cursor_key, next_root}
 use Rattle.subtree_outcome.specs.Outcomes.{outcome_seen}
-use Rattle.tile_coords.specs.Ends.{EndsAtRoot}
 use Rattle.tile_word.specs.Answers.{IsAnswer}
-use Rattle.region_cursor.proofs.Callers.{walk_stays, next_root_of_key, outcome_fits, read_whole}
+use Rattle.region_cursor.proofs.Callers.{walk_stays, next_root_of_key, outcome_fits, ends_within}
 use Rattle.subtree_outcome.proofs.Reading.{of_told, both_told}
+use Rattle.subtree_outcome.proofs.Orphans.{files_have_none}
 use Rattle.framed_walk.specs.Frames.{IsHeld}
 use Rattle.region_cursor.specs.Joined.{HasWalked}
 use Rattle.framed_walk.proofs.Turns.{seen, at_rest_again}
@@ -84,7 +84,6 @@ loop-next-preserved g c =
     let left = leaves_after cursor after c.look.result.now c.in-Some.key more at inv.within c.in_ok-end.ensures.after c.in_ok-end.ensures.words in
     let stays = walk_stays layout region cursor after inv.of_layout c.in_ok-end.ensures.same in
     let is : all ≡ words ++ more = subst (λ (ws : List ℕ). all ≡ words ++ ws) c.deref.ensures.value c.in_ok-extend_from_slice.ensures.items in
-    let whole = read_whole layout (word_tile layout.scheme c.in-Some.key) c.look.result.now outcome.read in
     let root_is : next_root cursor ≡ word_tile layout.scheme c.in-Some.key =
     next_root_of_key cursor c.in-Some.key at ∙ ap (λ (e : Scheme). word_tile e c.in-Some.key) inv.of_layout.same_scheme in
     record {
@@ -95,9 +94,8 @@ loop-next-preserved g c =
       next_is = c.next_key-next-in-Some.ensures.key;
       root = c.next_key-next-in-Some.ensures.root;
       few = c.next_key-next-in-Some.ensures.few;
-      found = found_more layout.scheme cursor.scheme cursor.contents cursor.count words more all inv.found inv.count inv.of_layout.same_scheme
-          c.in_ok-end.ensures.are_words c.in_ok-end.ensures.few is;
-      end_is = subst (λ (e : Scheme). EndsAtRoot e c.in_ok-end.end) inv.of_layout.same_scheme c.in_ok-end.ensures.root;
+      found = found_more layout region cursor words more all inv.found inv.count inv.of_layout c.in_ok-end.ensures.are_words c.in_ok-end.ensures.few is;
+      end_is = ends_within layout region cursor (word_tile layout.scheme key) c.look.result.now c.in_ok-end.end inv.of_layout outcome.read c.in_ok-end.ensures.root;
       over = λ none partial. not_partial cursor c.look.result.now (sym c.in_ok-end.ensures.end ∙ partial)
           (ap cursor_key (sym c.in_ok-end.ensures.after) ∙ sym c.next_key-next-in-Some.ensures.key ∙ none);
       read = (
@@ -111,7 +109,7 @@ loop-next-preserved g c =
             let s = scene_of files layout in
             let read : outcome_seen c.look.result.now ≡ s.outcome (next_root cursor) = sym o ∙ ap s.outcome (sym root_is) in
             let goes = goes_on_by_one s region cursor after c.loop-next.next c.next_key-next-in-Some.result words more all c.loop-next.end c.in_ok-end.end inv.of_layout.same_region stays.same_region
-            (λ k stands. c.in_ok-end.ensures.scene s k stands read whole)
+            (λ k stands. c.in_ok-end.ensures.scene s k (files_have_none files layout) stands read)
             (λ k stands. c.next_key-next-in-Some.ensures.scene s k stands) is w.walked in
             let at_key = subst (λ (o : Option ℕ). IsNextKey s region w.walked.made o) c.in-Some.is w.walked.next_is in
             record { walked = goes.0; keys_are = keys_more s region w.walked.made goes.0.made key keys w.keys_are at_key goes.1 })

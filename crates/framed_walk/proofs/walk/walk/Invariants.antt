@@ -3,8 +3,7 @@ use Rattle.std.specs.Prelude.{IfSome, ◌≢◌}
 use Rattle.implicit_tileset.specs.Scene.{scene_of}
 use Rattle.tile_coords.specs.declared.walk_end.WalkEnd.TheVariants.{Partial}
 use Rattle.region_cursor.specs.Cursor.{IsWalkOf, IsRootKey, cursor_key}
-use Rattle.tile_coords.specs.Ends.{EndsAtRoot}
-use Rattle.tile_word.specs.Answers.{AreFound}
+use Rattle.subtree_outcome.specs.Found.{AreTilesOf, EndsWithin}
 use Rattle.framed_walk.specs.Frames.{AreAtRest}
 use Rattle.framed_walk.specs.Reads.{HasRead}
 use Rattle.framed_walk.proofs.Reading.{IsWalkedBy}
@@ -19,8 +18,8 @@ invariant-loop-next g l = record {
   next_is : l.next ≡ cursor_key l.cursor;
   root : IfSome l.next (IsRootKey l.cursor);
   few : length l.cursor.roots < 2 ^ 64;
-  found : AreFound l.fn.layout.scheme l.words.items;
-  end_is : EndsAtRoot l.fn.layout.scheme l.end;
+  found : AreTilesOf l.fn.layout l.words.items;
+  end_is : EndsWithin l.fn.layout l.end;
   over : l.next ≡ None → l.end ≢ Partial;
   read : (keys : List ℕ) × HasRead l.fn.pool keys l.pool (g.S.FileSource.fetches l.fn.files) (g.S.FileSource.fetches l.files)
       × IfSome (g.S.FileSource.told l.fn.files) (λ all. IsWalkedBy (scene_of all l.fn.layout) l.fn.cursor.region l.cursor l.next l.words.items l.end keys);

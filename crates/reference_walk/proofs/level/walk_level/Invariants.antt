@@ -5,7 +5,7 @@ use Rattle.implicit_tiling.specs.Code.{word_tile}
 use Rattle.implicit_tileset.specs.Scene.{scene_of}
 use Rattle.scene_ports.specs.Counts.{more_by}
 use Rattle.tile_word.specs.Roots.{AreRoots}
-use Rattle.tile_word.specs.Answers.{AreFound}
+use Rattle.subtree_outcome.specs.Found.{AreTilesOf}
 use Rattle.reference_walk.specs.Walks.{GoesOn, word_pair, next_roots}
 use Rattle.reference_walk.proofs.level.walk_level.Given as goal
 
@@ -16,7 +16,7 @@ invariant-loop-root g l = record {
   roots_on : IfSome (g.S.FileSource.told l.fn.files)
       (λ all. map (word_tile l.fn.layout.scheme) l.next.items ≡ map (word_tile l.fn.layout.scheme) l.fn.next.items
       ++ flat_map (λ w. next_roots (scene_of all l.fn.layout) l.fn.region l.fn.level (word_tile l.fn.layout.scheme w)) (take l.root-index l.fn.roots));
-  found : AreFound l.fn.layout.scheme l.words.items;
+  found : AreTilesOf l.fn.layout l.words.items;
   next : AreRoots l.fn.layout (l.fn.level + 1) l.next.items;
   later : g.S.FileSource.faults l.fn.files ≤ g.S.FileSource.faults l.files;
   sure : g.S.FileSource.faults l.files ≡ g.S.FileSource.faults l.fn.files;

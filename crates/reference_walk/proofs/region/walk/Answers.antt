@@ -1,7 +1,7 @@
 use Rattle.std.proofs.Common.{◌≡◌, ◌≤◌, ◌+◌, ◌++◌, [], List, ℕ, ◌∙◌, map, length, refl, ap, sym, subst, arith}
 use Rattle.std.specs.List.{flat_map, All}
 use Rattle.std.proofs.lemmas.List.Elements.{All-nil}
-use Rattle.implicit_tiling.specs.Code.{word_tile, IsWord}
+use Rattle.implicit_tiling.specs.Code.{word_tile}
 use Rattle.implicit_tiling.specs.Region.{Region}
 use Rattle.implicit_tiling.specs.Scene.{Layout}
 use Rattle.implicit_tiling.specs.Steps.{root_level}
@@ -10,7 +10,8 @@ use Rattle.scene_ports.specs.Counts.{more_by}
 use Rattle.walk_laws.specs.Pairs.{pairs_above}
 use Rattle.tile_coords.specs.declared.walk_end.WalkEnd.{WalkEnd}
 use Rattle.tile_coords.specs.declared.walk_end.WalkEnd.TheVariants.{Partial}
-use Rattle.tile_word.specs.Roots.{AreRoots, AreWords}
+use Rattle.tile_word.specs.Roots.{AreRoots}
+use Rattle.subtree_outcome.specs.Found.{IsTileWord, AreTileWords}
 use Rattle.reference_walk.specs.Walks.{GoesOn, Walks, word_pair, next_roots, is_last, IsWalked}
 use Rattle.subtree_outcome.proofs.Reading.{both_told, three_told, of_told, told_same, told_always}
 use Rattle.subtree_outcome.proofs.Counting.{stays}
@@ -26,14 +27,14 @@ loop-level-init g c =
     let levels = ap (λ (l : Layout). l.levels) c.layout.view_is in
     let some : 1 ≤ layout.levels = omega (arith, levels, c.layout.invariant.some_levels) in
     let P : ℕ → Type 0 = λ l. AreRoots layout l c.in_ok-roots.roots.items in
-    let W : List ℕ → Type 0 = AreWords layout.scheme in
+    let W : List ℕ → Type 0 = AreTileWords layout in
     let first : 0 ≡ root_level layout 0 = omega arith in
     record {
       at = told_always (g.S.FileSource.told c.args.files.now) (λ all. IsAt (scene_of all layout) c.args.region.now 0 c.in_ok-roots.roots.items c.args.words.now.items)
           (λ all. begins (scene_of all layout) c.args.region.now c.layout.inside.scheme c.in_ok-roots.roots.items c.args.words.now.items scheme some c.requires.region.is_region
           c.in_ok-roots.ensures c.requires.empty);
       roots_are = subst P first (first_roots_are layout c.layout.inside.scheme c.in_ok-roots.roots.items scheme some c.in_ok-roots.ensures);
-      found = record { are_words = subst W (sym c.requires.empty) (All-nil (IsWord layout.scheme)); few = omega (arith, ap (length {A = ℕ}) c.requires.empty) };
+      found = record { are_words = subst W (sym c.requires.empty) (All-nil (IsTileWord layout.scheme layout.levels (length layout.contents))); few = omega (arith, ap (length {A = ℕ}) c.requires.empty) };
       later = omega arith;
       sure = refl;
       fetched = told_always (g.S.FileSource.told c.args.files.now) _ (λ all. omega arith);

@@ -5,7 +5,7 @@ use Rattle.implicit_tileset.specs.Scene.{scene_of}
 use Rattle.scene_ports.specs.Counts.{more_by}
 use Rattle.walk_laws.specs.Pairs.{pairs_above}
 use Rattle.tile_word.specs.Roots.{AreRoots}
-use Rattle.tile_word.specs.Answers.{AreFound}
+use Rattle.subtree_outcome.specs.Found.{AreTilesOf}
 use Rattle.reference_walk.proofs.Frontier.{IsAt}
 use Rattle.reference_walk.proofs.region.walk.Given as goal
 
@@ -13,7 +13,7 @@ abbrev pub invariant-loop-level : goal.invariant-loop-level
 invariant-loop-level g l = record {
   at : IfSome (g.S.FileSource.told l.fn.files) (λ all. IsAt (scene_of all l.fn.layout) l.fn.region l.level l.roots.items l.words.items);
   roots_are : AreRoots l.fn.layout (root_level l.fn.layout l.level) l.roots.items;
-  found : AreFound l.fn.layout.scheme l.words.items;
+  found : AreTilesOf l.fn.layout l.words.items;
   later : g.S.FileSource.faults l.fn.files ≤ g.S.FileSource.faults l.files;
   sure : g.S.FileSource.faults l.files ≡ g.S.FileSource.faults l.fn.files;
   fetched : IfSome (g.S.FileSource.told l.fn.files)

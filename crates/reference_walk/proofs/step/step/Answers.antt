@@ -1,4 +1,4 @@
-use Rattle.std.proofs.Common.{◌≡◌, ◌≤◌, ◌<◌, ◌%◌, ◌∙◌, ap, arith, refl}
+use Rattle.std.proofs.Common.{◌≡◌, ◌≤◌, ◌<◌, ◌%◌, ◌∙◌, ap, arith}
 use Rattle.std.proofs.lemmas.Nat.{mod_below}
 use Rattle.implicit_tiling.specs.Tile.{Tile}
 use Rattle.implicit_tiling.specs.Scene.{Layout}
@@ -6,20 +6,16 @@ use Rattle.implicit_tileset.specs.Scene.{scene_of}
 use Rattle.subtree_outcome.specs.Outcomes.{outcome_seen}
 use Rattle.reference_walk.specs.Walks.{IsWalked}
 use Rattle.subtree_outcome.proofs.Reading.{both_told}
-use Rattle.reference_walk.proofs.Steps.{found_after, roots_after, walks_fault, walks_good, next_good, level_is}
+use Rattle.reference_walk.proofs.Steps.{own_level, fault_is_of, found_after, roots_after, walks_fault, walks_good, next_good, level_is}
 use Rattle.tile_walk.proofs.Roots.{decoded}
 use Rattle.reference_walk.proofs.step.step.Goals as goal
 
 pub root_tile-tile-requires : goal.root_tile-tile-requires
-root_tile-tile-requires g c =
-    let root = c.requires.root in
-    record {
-      is_word = root.is_word;
-      no_mask = root.no_mask;
-      at_level = refl;
-      below = omega (arith, root.below, root.at_level);
-      at_start = ap (λ l. l % c.args.layout.now.subtree_levels) root.at_level ∙ root.at_start;
-    }
+root_tile-tile-requires g c = own_level c.args.layout.now _ c.args.root c.requires.root
+
+pub returns-in-Bad-clause-end : goal.returns-in-Bad-clause-end
+returns-in-Bad-clause-end g c =
+    fault_is_of c.args.layout.now _ c.args.root c.in-Bad.number c.root_tile-tile.result c.in_ok-number.field-0 c.requires.root c.in_ok-number.ensures.found c.in-Bad.is
 
 pub returns-in-Bad-clause-walks : goal.returns-in-Bad-clause-walks
 returns-in-Bad-clause-walks g c =

@@ -1,7 +1,7 @@
 use Rattle.std.proofs.Common.{◌≡◌, ap, arith, Ok, Err}
 use Rattle.implicit_tiling.specs.Scene.{Layout}
 use Rattle.implicit_tileset.specs.Scene.{subtree_name}
-use Rattle.subtree_outcome.proofs.Stating.{stated_root}
+use Rattle.subtree_outcome.proofs.Stating.{stated}
 use Rattle.subtree_outcome.proofs.Reading.{name_is, told_whole}
 use Rattle.subtree_outcome.proofs.outcome.read_subtree.Goals as goal
 
@@ -16,7 +16,7 @@ returns-in-Ok-clause-told g c =
 pub returns-in-Ok-clause-found : goal.returns-in-Ok-clause-found
 returns-in-Ok-clause-found g c = record {
   of_layout = c.in-Ok.ensures.of_layout;
-  at_root = stated_root c.args.layout.now c.args.root c.deref.result.now c.in-Ok.subtree c.in-Ok.ensures.stated;
+  at_root = (stated c.args.layout.now c.args.root c.deref.result.now c.in-Ok.subtree c.in-Ok.ensures.stated).at_root;
   no_orphan = c.in-Ok.ensures.rules.no_orphan;
 }
 

@@ -36,12 +36,12 @@ loop-turn-init g c =
     let levels = ap (λ (l : Layout). l.levels) c.layout.view_is in
     let some : 1 ≤ layout.levels = omega (arith, levels, c.layout.invariant.some_levels) in
     let roots = c.in_ok-roots.roots.items in
-    let none : List FoundFault → Type 0 = AreFaults layout.scheme in
+    let none : List FoundFault → Type 0 = AreFaults layout in
     record {
       at = told_always (g.S.FileSource.told c.args.files.now) _
           (λ all. check_begins (scene_of all layout) c.layout.inside.scheme roots _ c.args.found.now.items scheme some c.in_ok-roots.ensures (omega arith) c.requires.empty);
       roots_are = roots_at layout 0 _ roots (omega arith) (first_roots_are layout c.layout.inside.scheme roots scheme some c.in_ok-roots.ensures);
-      faults_are = subst none (sym c.requires.empty) (All-nil (IsFault layout.scheme));
+      faults_are = subst none (sym c.requires.empty) (All-nil (IsFault layout));
       few = omega arith;
       later = omega arith;
       sure = refl;

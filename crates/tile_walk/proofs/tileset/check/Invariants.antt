@@ -13,7 +13,7 @@ invariant-loop-turn g l = record {
   at : IfSome (g.S.FileSource.told l.fn.files)
       (λ all. IsCheckedTo (scene_of all l.fn.layout) (l.turn * l.fn.layout.subtree_levels) l.roots.items l.looked l.found.items);
   roots_are : AreRoots l.fn.layout (l.turn * l.fn.layout.subtree_levels) l.roots.items;
-  faults_are : AreFaults l.fn.layout.scheme l.found.items;
+  faults_are : AreFaults l.fn.layout l.found.items;
   few : l.looked ≤ most_roots;
   later : g.S.FileSource.faults l.fn.files ≤ g.S.FileSource.faults l.files;
   sure : g.S.FileSource.faults l.files ≡ g.S.FileSource.faults l.fn.files;

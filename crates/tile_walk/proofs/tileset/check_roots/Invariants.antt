@@ -21,7 +21,7 @@ invariant-loop-root g l = record {
   count_is : l.count ≡ l.fn.looked + l.root-index;
   few : l.count ≤ most_roots;
   next_are : AreRoots l.fn.layout (l.fn.turn * l.fn.layout.subtree_levels + l.fn.layout.subtree_levels) l.next.items;
-  faults_are : AreFaults l.fn.layout.scheme l.found.items;
+  faults_are : AreFaults l.fn.layout l.found.items;
   later : g.S.FileSource.faults l.fn.files ≤ g.S.FileSource.faults l.files;
   sure : g.S.FileSource.faults l.files ≡ g.S.FileSource.faults l.fn.files;
   fetched : g.S.FileSource.fetches l.files ≡ more_by l.root-index (g.S.FileSource.fetches l.fn.files);
