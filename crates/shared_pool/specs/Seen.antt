@@ -81,6 +81,12 @@ module _ {G K T : Type 0} where
   abbrev pub HasKept : PoolTag G → Note K T → Option (Shared K T) → Option (Shared K T) → Note K T → Type 0
   HasKept tag n last gave m = Takes tag last (λ x. (gave ≡ Some x) × (m ≡ n))
 
+  -- a frame was ready with the key, as the pool answered, and the pool was given back as it was taken
+  abbrev pub HasForgone : (K → K → Bool) → K → PoolTag G → Note K T → Option (Shared K T) → Option (Shared K T)
+      → Note K T → Type 0
+  HasForgone eq key tag n last gave m = Takes tag last (λ x. ((f : ℕ) × IsAskAnswer eq key x.pool (hit f))
+      × (gave ≡ Some x) × (m ≡ n))
+
   -- a loading ended with a value, or without one
   abbrev pub HasSettled : ℕ → PoolTag G → Note K T → Option (Shared K T) → Option (Shared K T) → Note K T
       → Option (Arc T Global) → Type 0
@@ -104,7 +110,7 @@ module _ {G K T : Type 0} where
   HasAsked eq fits number key tag n last gave m (AHit f copy) = HasHit eq fits key tag n last gave m f copy
   HasAsked eq fits number key tag n last gave m (AGranted f) = HasGrant eq number key tag n last gave m f
   HasAsked eq fits number key tag n last gave m ABusy = HasMissed eq key tag n last gave m
-  HasAsked eq fits number key tag n last gave m AMemory = HasKept tag n last gave m
+  HasAsked eq fits number key tag n last gave m AMemory = HasForgone eq key tag n last gave m
 
   -- one look, which found that another pass loads the key, or gave an answer
   abbrev pub HasLooked : (K → K → Bool) → (G → K → T → Type 0) → ℕ → K → PoolTag G → Note K T → Option (Shared K T)
@@ -118,7 +124,7 @@ module _ {G K T : Type 0} where
   HasPinned eq fits number key tag n last gave m (PHit copy) = (f : ℕ) × HasHit eq fits key tag n last gave m f copy
   HasPinned eq fits number key tag n last gave m PGranted = (f : ℕ) × HasGrant eq number key tag n last gave m f
   HasPinned eq fits number key tag n last gave m PBusy = HasMissed eq key tag n last gave m
-  HasPinned eq fits number key tag n last gave m PMemory = HasKept tag n last gave m
+  HasPinned eq fits number key tag n last gave m PMemory = HasForgone eq key tag n last gave m
 
   -- what a seat knows that has the pool out
   abbrev pub HasOut : (K → K → Bool) → (G → K → T → Type 0) → Seat (PoolTag G) (Note K T) (Shared K T) → Shared K T

@@ -7,7 +7,7 @@ ghost use Rattle.shared_pool.specs.Fits.{HasNumber, IsIdle};
 ghost use Rattle.shared_pool.specs.Seen.{HasAsked, HasLooked, HasOut};
 
 use crate::answer::Asking;
-use crate::changes::{granted, hit, keep, miss};
+use crate::changes::{forgo, granted, hit, keep, miss};
 use crate::rule::{PoolRule, Pooled};
 use crate::shared::Shared;
 use frame_pool::Asked;
@@ -109,7 +109,7 @@ fn pin_found<R: PoolRule>(
         result }
 {
     let Ok(copy) = Arc::try_clone(shared.pool.look(frame)) else {
-        keep(lock, seat, shared);
+        forgo(lock, seat, shared, key, frame);
         return Asking::Memory;
     };
     hit(lock, seat, shared, key, frame, &copy);

@@ -6,7 +6,8 @@ ghost use Rattle.frame_pool.specs.Moves.{IsAskAnswer, after_ask};
 ghost use Rattle.shared_pool.specs.declared.entry.Entry.TheVariants.{Ended};
 ghost use Rattle.shared_pool.specs.Fits.{HasNumber, IsIdle, Permits, with_load, with_pin};
 ghost use Rattle.shared_pool.specs.Books.{occurs};
-ghost use Rattle.shared_pool.specs.Seen.{HasOut, HasHit, HasGrant, HasMissed, HasKept, HasSettled, HasFreed, pin_at};
+ghost use Rattle.shared_pool.specs.Seen.{HasOut, HasHit, HasGrant, HasMissed, HasForgone, HasKept};
+ghost use Rattle.shared_pool.specs.Seen.{HasSettled, HasFreed, pin_at};
 ghost use Rattle.shared_pool.specs.Seen.{note_of_grant, log_of_grant, log_of_end};
 
 use crate::entry::Entry;
@@ -55,6 +56,25 @@ pub(crate) fn miss<R: PoolRule>(
     ensures missed { HasMissed R.Key.eq key seat.old.tag seat.old.note seat.old.last seat.new.gave seat.new.note }
 {
     let _ = key;
+    lock.give::<Brand>(seat, shared);
+}
+
+// The pool is given back as it was taken, though the frame is ready with the key.
+pub(crate) fn forgo<R: PoolRule>(
+    lock: &TurnLock<Pooled<R>>,
+    seat: &mut Seat<Pooled<R>>,
+    shared: Shared<R::Key, R::Item>,
+    key: R::Key,
+    frame: u32,
+)
+    requires own { seat.old.table ≡ lock.now }
+    requires out { HasOut R.Key.eq R.fits seat.old shared }
+    requires answer { IsAskAnswer R.Key.eq key shared.pool (hit frame) }
+    ensures same { seat.new ≡ record seat.old { note = seat.new.note; out = None; gave = seat.new.gave } }
+    ensures forgone { HasForgone R.Key.eq key seat.old.tag seat.old.note seat.old.last seat.new.gave seat.new.note }
+{
+    let _ = key;
+    let _ = frame;
     lock.give::<Brand>(seat, shared);
 }
 

@@ -188,9 +188,9 @@ fn two_read<R: Threads + Wait + Sync>(
     (one.0, other.0, one.1 && other.1)
 }
 
-// Whether the pass gets a frame for the key, which it then has for good.
+// Whether the pass gets a frame for the key, which nobody has had. The pass has it for good.
 fn has_a_frame(rt: &impl Wait, mut reader: Reader, key: u64) -> bool {
-    matches!(reader.pass.pin(rt, key), Pinned::Hit(_) | Pinned::Granted)
+    matches!(reader.pass.pin(rt, key), Pinned::Granted)
 }
 
 fn sends<T: Send>(_: &T) {}
@@ -212,10 +212,10 @@ fn four_threads_find_each_value_at_its_key(rt: HostRuntime) -> Result<(), Fail> 
     );
     assert!(rt; some.2 && others.2);
 
-    // No pin is left: each of three keys gets a frame, and a fourth none.
-    assert!(rt; has_a_frame(rt, some.0, 0));
-    assert!(rt; has_a_frame(rt, some.1, 1));
-    assert!(rt; has_a_frame(rt, others.0, 2));
-    assert!(rt; !has_a_frame(rt, others.1, 3));
+    // No pin is left: each of three new keys gets a frame, and a fourth none.
+    assert!(rt; has_a_frame(rt, some.0, KEYS));
+    assert!(rt; has_a_frame(rt, some.1, KEYS + 1));
+    assert!(rt; has_a_frame(rt, others.0, KEYS + 2));
+    assert!(rt; !has_a_frame(rt, others.1, KEYS + 3));
     Ok(())
 }
