@@ -1,0 +1,4 @@
+mod Fronts
+mod Plans
+mod Steps
+mod Attached
