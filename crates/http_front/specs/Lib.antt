@@ -2,3 +2,4 @@ pub mod Reading
 pub mod Filling
 pub mod Requests
 pub mod Table
+pub mod Deciding

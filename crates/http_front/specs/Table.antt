@@ -84,7 +84,10 @@ pub record Exchange : Type 0 where
 abbrev pub closes_after : ℕ → Exchange → Bool
 closes_after n e = e.reply.closes || (asks_to_end e.request || n == most_replies)
 
--- the bytes of the n-th reply: its head, which tells the length of the body, and the body; to HEAD the head alone
+-- the bytes of a reply: its head, which tells the length of the body, and the body, where it is wanted
+abbrev pub whole_reply : ℕ → List ℕ → Bool → Bool → List ℕ
+whole_reply status body closes quiet = reply_head status (length body) closes ++ (if quiet then [] else body)
+
+-- the bytes of the n-th reply
 abbrev pub reply_bytes : ℕ → Exchange → List ℕ
-reply_bytes n e = reply_head e.reply.status (length e.reply.body) (closes_after n e)
-    ++ (if wants_no_body e.request then [] else e.reply.body)
+reply_bytes n e = whole_reply e.reply.status e.reply.body (closes_after n e) (wants_no_body e.request)

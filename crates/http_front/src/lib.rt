@@ -3,9 +3,13 @@
 #![tactic(auto)]
 
 mod buffer;
+mod decided;
+mod given;
 mod reading;
 
 pub use buffer::HeadBuffer;
+pub use decided::{Decided, decide};
+pub use given::give_reply;
 pub use reading::Reading;
 
 #[cfg(test)]

@@ -1,9 +1,9 @@
 // What no clause says: that memory suffices, and that requests are read alike in whatever pieces their bytes come.
 ghost use Rattle.std.specs.Prelude.{◌≤◌};
 
-use crate::{HeadBuffer, Reading};
-use http_text::{MOST_HEAD_BYTES, MOST_HEADER_LINES};
-use scene_ports::MemoryLink;
+use crate::{Decided, HeadBuffer, Reading, decide, give_reply};
+use http_text::{HeadAnswer, MOST_HEAD_BYTES, MOST_HEADER_LINES, Route, head};
+use scene_ports::{GiveFault, MemoryLink};
 use std::alloc::{AllocError, Global};
 use std::fmt::Write;
 use std::test::Fail;
@@ -88,5 +88,58 @@ fn a_failed_take_loses_nothing(rt: HostRuntime) -> Result<(), Fail> {
     for n in 1..12u64 {
         assert!(rt; told(alloc, bytes.as_slice(), 7, n)?.as_str() == "18 18 18 end");
     }
+    Ok(())
+}
+
+#[test]
+fn heads_decide(rt: HostRuntime) -> Result<(), Fail> {
+    let alloc = rt.alloc();
+    let mut line = Vec::from_slice(alloc, b"an older line")?;
+    let rows: [(&[u8], Decided, &[u8]); 6] = [
+        (
+            b"GET /tiles?hi=0,0&lo=0,0&level=0 HTTP/1.0\r\n\r\n",
+            Decided::Asks(Route::Tiles),
+            b"0 0,0 0,0",
+        ),
+        (
+            b"GET /prefix?level=9 HTTP/1.1\r\n\r\n",
+            Decided::Asks(Route::Prefix),
+            b"",
+        ),
+        (b"GET /x HTTP/1.1\r\n\r\n", Decided::NotFound, b""),
+        (b"POST /x HTTP/1.1\r\n\r\n", Decided::NotFound, b""),
+        (b"HEAD /tiles HTTP/1.1\r\n\r\n", Decided::NotAllowed, b""),
+        (
+            b"POST /x HTTP/1.1\r\nContent-Length: 2\r\n\r\nab",
+            Decided::BadRequest,
+            b"",
+        ),
+    ];
+    for (bytes, wanted, asked) in rows {
+        let HeadAnswer::Whole(parts) = head(bytes) else {
+            assert!(rt; false);
+            return Ok(());
+        };
+        assert!(rt; decide(bytes, &parts, &mut line) == Ok(wanted));
+        assert!(rt; line.as_slice() == asked);
+    }
+    Ok(())
+}
+
+#[test]
+fn a_reply_leaves_in_one_piece(rt: HostRuntime) -> Result<(), Fail> {
+    let alloc = rt.alloc();
+    let mut piece = Vec::new(alloc);
+    // Two replies are two gives, and the third fails.
+    let mut link = MemoryLink::new(alloc, Vec::new(alloc), 1, vec![in alloc; 3]?);
+    assert!(rt; give_reply(404, b"not found\n", false, false, &mut piece, &mut link) == Ok(()));
+    assert!(rt; give_reply(405, b"no\n", true, true, &mut piece, &mut link) == Ok(()));
+    let third = give_reply(503, b"busy\n", true, false, &mut piece, &mut link);
+    assert!(rt; third == Err(GiveFault::WriteFault));
+    let wanted =
+        b"HTTP/1.1 404 Not Found\r\nContent-Type: text/plain; charset=utf-8\r\nContent-Length: 10\r\n\
+        Connection: keep-alive\r\n\r\nnot found\nHTTP/1.1 405 Method Not Allowed\r\nAllow: GET\r\n\
+        Content-Type: text/plain; charset=utf-8\r\nContent-Length: 3\r\nConnection: close\r\n\r\n";
+    assert!(rt; link.written() == wanted.as_slice());
     Ok(())
 }
