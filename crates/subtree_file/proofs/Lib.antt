@@ -1,3 +1,4 @@
+pub mod Plain
 pub mod Contents
 pub mod Viewed
 pub mod Steps

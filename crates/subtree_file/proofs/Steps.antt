@@ -1,5 +1,5 @@
 -- The table of faults in the steps in which it is looked at.
-use Rattle.std.proofs.Common.{◌≡◌, ℕ, Bool, true, false, List, refl, ap, ◌∙◌}
+use Rattle.std.proofs.Common.{◌≡◌, ℕ, Bool, true, false, List, refl, sym, ap, ◌∙◌}
 use Rattle.std.specs.Prelude.{Option, Some, None, Result, Ok, Err}
 use Rattle.std.specs.List.{list_any}
 use Rattle.availability.specs.Rules.{fault_from, rule_fault}
@@ -9,11 +9,11 @@ use Rattle.implicit_tiling.specs.Checks.{need, refuse}
 use Rattle.implicit_tiling.specs.Tile.{Tile}
 use Rattle.implicit_tiling.specs.Scene.{Layout}
 use Rattle.implicit_tiling.specs.Subtree.{Subtree, has_orphan, has_content_alone}
-use Rattle.implicit_tileset.specs.Record.{Availability}
+use Rattle.implicit_tileset.specs.Record.{Availability, SubtreeRecord}
 use Rattle.implicit_tileset.specs.SubtreeFile.{Used, Held, names_no_view, is_external, is_out, is_short, is_miscounted, wanted_contents, used_of, subtree_from, subtree_checked, subtree_held, subtree_recorded, and_then}
 use Rattle.subtree_file.specs.declared.fault.DecodeFault.TheVariants.{Fault}
 use Rattle.subtree_file.specs.Faults.{bits_fault_number, fault_of_rule}
-use Rattle.subtree_file.specs.Decoding.{Decodes, used_in, views_checked, subtree_counted}
+use Rattle.subtree_file.specs.Decoding.{Decodes, AreUsed, used_in, views_checked, subtree_counted}
 
 -- ---- the rows from 11 on
 
@@ -71,3 +71,10 @@ broken layout root h used s fault is_used is_placed is_counted is_broken =
     ∙ ap (λ r. and_then r (λ done. and_then (subtree_counted layout root h) subtree_checked)) is_placed
     ∙ ap (λ r. and_then r subtree_checked) is_counted
     ∙ checked-err s fault is_broken
+
+-- ---- what is used
+
+pub are_used : (layout : Layout) (r : SubtreeRecord) (used : List Used) (found : Option (List Availability)) → wanted_contents layout r ≡ found
+    → need 11 found (λ contents. Ok (used_of layout r contents)) ≡ Ok used → AreUsed layout r used
+are_used layout r used None wanted is = cc
+are_used layout r used (Some contents) wanted is = record { contents = contents; wanted = wanted; are = let same : used_of layout r contents ≡ used = cc in sym same }

@@ -11,6 +11,10 @@ use Rattle.implicit_tileset.specs.Record.{Availability, BufferView, SubtreeRecor
 use Rattle.implicit_tileset.specs.SubtreeFile.{Used, Held, names_no_view, is_external, is_out, is_short}
 use Rattle.implicit_tileset.specs.SubtreeFile.{is_miscounted, raw_bits, view_bit, wanted_contents, used_of}
 use Rattle.implicit_tileset.specs.SubtreeFile.{subtree_from}
+use Rattle.implicit_tileset.specs.NamedBuffers.{NamedRecord, plain}
+use Rattle.subtree_json.specs.declared.fault.JsonFault.{JsonFault}
+use Rattle.subtree_json.specs.Faults.{fault_number}
+use Rattle.subtree_json.specs.Reading.{IsStated}
 use Rattle.subtree_file.specs.declared.fault.DecodeFault.{DecodeFault}
 use Rattle.subtree_file.specs.declared.fault.DecodeFault.TheVariants.{Fault, Memory}
 
@@ -25,6 +29,11 @@ abbrev pub DecodesList : {A : Type 0} → Result (List A) ℕ → Result (Vec A 
 DecodesList stated (Ok v) = stated ≡ Ok v.items
 DecodesList stated (Err (Fault n)) = stated ≡ Err n
 DecodesList stated (Err Memory) = Unit {0}
+
+-- the record of a JSON part that is stated, of which the names are left out, or its fault
+abbrev pub ReadsPlain : Result SubtreeRecord ℕ → Result NamedRecord JsonFault → Type 0
+ReadsPlain stated (Ok r) = stated ≡ Ok (plain r)
+ReadsPlain stated (Err fault) = IsStated stated (fault_number fault)
 
 -- a fault has a number of the table of faults of a subtree file
 abbrev pub IsNumbered : {A : Type 0} → Result A DecodeFault → Type 0

@@ -10,7 +10,24 @@ ghost use Rattle.subtree_file.specs.Decoding.{Decodes, views_checked};
 use crate::fault::{BitsFault, DecodeFault};
 use crate::used::Used;
 use std::marker::Model;
-use subtree_json::{Availability, BufferPart, SubtreeRecord, ViewPart};
+use subtree_json::{Availability, SubtreeRecord, ViewPart};
+
+// A buffer without the text of its name.
+#[derive(Clone, Copy)]
+pub(crate) struct PlainBuffer {
+    pub length: u64,
+    pub external: bool,
+}
+
+impl Model for PlainBuffer {
+    ghost use Rattle.implicit_tileset.specs.Record.{Buffer};
+
+    ghost Value = { Buffer };
+
+    ghost view = { λ b. record { length = b.length; external = b.external } };
+
+    ghost inverse = { λ v. record { length = v.length; external = v.external } };
+}
 
 // A record with the bytes of its internal buffer.
 #[derive(Drop)]
@@ -20,11 +37,12 @@ pub(crate) struct Held<'f> {
 }
 
 impl<'f> Model for Held<'f> {
+    ghost use Rattle.implicit_tileset.specs.NamedBuffers.{plain};
     ghost use Rattle.implicit_tileset.specs.SubtreeFile.{Held as held};
 
     ghost Value = { held };
 
-    ghost view = { λ h. record { parts = h.parts.now; binary = h.binary.now } };
+    ghost view = { λ h. record { parts = plain h.parts.now; binary = h.binary.now } };
 }
 
 impl Held<'_> {
@@ -40,11 +58,15 @@ impl Held<'_> {
     }
 
     // The buffer of a view, if it is there.
-    fn buffer_of(&self, view: &ViewPart) -> Option<BufferPart>
+    fn buffer_of(&self, view: &ViewPart) -> Option<PlainBuffer>
         ensures { result ≡ buffer_named self.now view.now }
     {
         let parts = self.parts;
-        parts.buffers.get(view.buffer as usize).copied()
+        let buffer = parts.buffers.get(view.buffer as usize)?;
+        Some(PlainBuffer {
+            length: buffer.length,
+            external: buffer.uri.is_some(),
+        })
     }
 
     fn names_no_view(&self, used: &Used) -> bool

@@ -3,7 +3,8 @@ ghost use Rattle.std.specs.Prelude.{◌≡◌, ◌+◌, ◌≤◌, length, take,
 ghost use Rattle.std.specs.Str.{bytes_eq};
 ghost use Rattle.std.specs.Int.{w32, w64, from_le_bytes};
 ghost use Rattle.implicit_tileset.specs.SubtreeFile.{parts_of};
-ghost use Rattle.subtree_file.specs.Parts.{ReadsParts, parts_fault_number};
+ghost use Rattle.implicit_tileset.specs.FileForms.{file_parts, is_blank as is_blank_byte, is_json_form as has_json_form};
+ghost use Rattle.subtree_file.specs.Parts.{ReadsParts, ReadsFileParts, parts_fault_number};
 
 const HEADER_BYTES: usize = 24;
 
@@ -13,6 +14,14 @@ const HEADER_BYTES: usize = 24;
 pub struct Parts<'b> {
     pub json: &'b [u8],
     pub binary: &'b [u8],
+}
+
+/// The JSON text of a subtree file of either form, and the bytes of its internal buffer, which a file in the JSON form
+/// hasn't.
+#[derive(Clone, Copy)]
+pub struct FileParts<'b> {
+    pub json: &'b [u8],
+    pub binary: Option<&'b [u8]>,
 }
 
 /// Why a file has no parts: the first that holds, in this order (the numbers and the order are this project's own).
@@ -68,6 +77,41 @@ pub fn read_parts<'b>(bytes: &'b [u8]) -> Result<Parts<'b>, PartsFault>
         json: &bytes[HEADER_BYTES..json_end],
         binary: &bytes[json_end..binary_end],
     })
+}
+
+/// The parts of a file of either form: in the JSON form all its bytes are JSON text.
+pub fn read_file_parts<'b>(bytes: &'b [u8]) -> Result<FileParts<'b>, PartsFault>
+    ensures { ReadsFileParts (file_parts bytes.now) result }
+{
+    if is_json_form(bytes) {
+        return Ok(FileParts {
+            json: bytes,
+            binary: None,
+        });
+    }
+    let parts = read_parts(bytes)?;
+    Ok(FileParts {
+        json: parts.json,
+        binary: Some(parts.binary),
+    })
+}
+
+// The first byte that isn't a blank is an opening brace.
+fn is_json_form(bytes: &[u8]) -> bool
+    ensures { result ≡ has_json_form bytes.now }
+{
+    for byte in bytes {
+        if !is_blank(*byte) {
+            return *byte == b'{';
+        }
+    }
+    false
+}
+
+fn is_blank(byte: u8) -> bool
+    ensures { result ≡ is_blank_byte byte }
+{
+    byte == b' ' || byte == b'\t' || byte == b'\n' || byte == b'\r'
 }
 
 fn has_magic(bytes: &[u8]) -> bool

@@ -4,8 +4,10 @@ ghost use Rattle.std.specs.List.{All};
 ghost use Rattle.implicit_tiling.specs.Tile.{IsTile};
 ghost use Rattle.implicit_tiling.specs.Subtree.{IsOf};
 ghost use Rattle.availability.specs.Rules.{KeepsRules};
+ghost use Rattle.implicit_tileset.specs.Record.{record_of};
 ghost use Rattle.implicit_tileset.specs.SubtreeFile.{subtree_of, subtree_recorded};
-ghost use Rattle.subtree_file.specs.Decoding.{Decodes, IsNumbered, AreUsed, IsPlaced, subtree_counted};
+ghost use Rattle.subtree_file.specs.Decoding.{Decodes, IsNumbered, AreUsed, IsPlaced, ReadsPlain};
+ghost use Rattle.subtree_file.specs.Decoding.{subtree_counted};
 
 use crate::bits::{read_all, read_bits};
 use crate::fault::DecodeFault;
@@ -14,7 +16,7 @@ use crate::parts::read_parts;
 use crate::used::{Used, used_of};
 use availability::Subtree;
 use std::alloc::Global;
-use subtree_json::read;
+use subtree_json::{JsonFault, SubtreeRecord, read};
 use tile_coords::Tile;
 use tileset_json::Layout;
 
@@ -41,12 +43,19 @@ pub fn decode(
     ensures numbered { IsNumbered result }
 {
     let parts = read_parts(bytes)?;
-    let stated = read(alloc, parts.json)?;
+    let stated = read_plain(alloc, parts.json)?;
     let held = Held {
         parts: &stated,
         binary: parts.binary,
     };
     decode_held(alloc, layout, root, &held)
+}
+
+// The record of the JSON part, of which a file alone knows no name.
+fn read_plain(alloc: Global, part: &[u8]) -> Result<SubtreeRecord, JsonFault>
+    ensures { ReadsPlain (record_of part.now) result }
+{
+    read(alloc, part)
 }
 
 // The subtree of a record with the bytes of its internal buffer.

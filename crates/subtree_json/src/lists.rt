@@ -15,8 +15,8 @@ pub(crate) trait ListedPart: Drop {
     // What a member of the list states, if it states something.
     ghost stated: { Data → Option Self };
 
-    fn of_member(member: &Value) -> Option<Self>
-        ensures { result ≡ stated (view member.now) };
+    fn of_member(alloc: Global, member: &Value) -> Result<Option<Self>, AllocError>
+        ensures { IfOk result (λ part. part ≡ stated (view member.now)) };
 }
 
 // The parts of a list, which may be absent; None where it is another value, or a member is faulty.
@@ -35,7 +35,8 @@ pub(crate) fn read_list<T: ListedPart>(
     };
     let mut parts = Vec::with_capacity(alloc, list.len())?;
     for member in list {
-        let Some(part) = T::of_member(member) else {
+        let found = T::of_member(alloc, member)?;
+        let Some(part) = found else {
             return Ok(None);
         };
         parts.push(part)?;

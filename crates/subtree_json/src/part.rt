@@ -2,22 +2,21 @@
 use std::marker::Model;
 
 /// A buffer (subtree JSON format: buffers).
-#[derive(Clone, Copy, Debug, PartialEq, Eq)]
+#[derive(Debug, Drop)]
 pub struct BufferPart {
     /// Its length in bytes.
     pub length: u64,
-    /// Whether its bytes stand in a file of their own: it has a `uri`.
-    pub external: bool,
+    /// The name of its file, beside the subtree's, as it is stated; none where its bytes stand in the subtree file.
+    pub uri: Option<String>,
 }
 
 impl Model for BufferPart {
-    ghost use Rattle.implicit_tileset.specs.Record.{Buffer};
+    ghost use Rattle.std.specs.Prelude.{option_map, string_bytes};
+    ghost use Rattle.implicit_tileset.specs.NamedBuffers.{NamedBuffer};
 
-    ghost Value = { Buffer };
+    ghost Value = { NamedBuffer };
 
-    ghost view = { λ b. record { length = b.length; external = b.external } };
-
-    ghost inverse = { λ v. record { length = v.length; external = v.external } };
+    ghost view = { λ b. record { length = b.length; uri = option_map string_bytes b.uri } };
 }
 
 /// A buffer view (subtree JSON format: buffer views). None of the numbers is checked against another.

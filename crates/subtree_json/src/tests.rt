@@ -1,5 +1,5 @@
 // What no clause says: reading succeeds where there is memory, and each text has the answer of the standard's reader.
-use crate::{Availability, BufferPart, ContentPart, JsonFault, ViewPart, read};
+use crate::{Availability, ContentPart, JsonFault, ViewPart, read};
 use std::test::Fail;
 
 const GOOD: &[u8] =
@@ -21,20 +21,9 @@ fn a_whole_record(rt: HostRuntime) -> Result<(), Fail> {
         assert!(rt; false);
         return Ok(());
     };
-    assert!(rt;
-        record.buffers.as_slice()
-            == [
-                BufferPart {
-                    length: 10,
-                    external: false
-                },
-                BufferPart {
-                    length: 7,
-                    external: true
-                }
-            ]
-            .as_slice()
-    );
+    assert!(rt; record.buffers.len() == 2);
+    assert!(rt; record.buffers[0].length == 10 && record.buffers[0].uri.is_none());
+    assert!(rt; record.buffers[1].length == 7 && record.buffers[1].uri.as_deref() == Some("b"));
     assert!(rt;
         record.views.as_slice()
             == [ViewPart {

@@ -11,7 +11,7 @@ loop-member-init g c = ap (λ done. goes_on g.T.ListedPart.stated done c.deref-m
 pub loop-member-preserved : goal.loop-member-preserved
 loop-member-preserved g c =
     ap (λ done. goes_on g.T.ListedPart.stated done c.deref-member-items.result.now (c.loop-member.member-index + 1)) c.in_ok-push.ensures.items
-    ∙ goes_on-step g.T.ListedPart.stated c.loop-member.parts.items c.in-Some-of_member.part c.deref-member-items.result.now c.loop-member.member-index c.member-item.result c.loop-member-test.true c.member-item.is c.in-Some-of_member.ensures
+    ∙ goes_on-step g.T.ListedPart.stated c.loop-member.parts.items c.in-Some-found.part c.deref-member-items.result.now c.loop-member.member-index c.member-item.result c.loop-member-test.true c.member-item.is (sym c.in-Some-found.is ∙ c.in_ok-found.ensures)
     ∙ c.loop-member.invariant
 
 pub returns : goal.returns
@@ -24,12 +24,12 @@ returns g c =
     sym (listed_as g.T.ListedPart.stated _ _ _ is_list
     (sym c.loop-member.invariant ∙ goes_on-end g.T.ListedPart.stated c.loop-member.parts.items c.deref-member-items.result.now c.loop-member.member-index c.loop-member-test.false))
 
-pub returns-in_default-of_member : goal.returns-in_default-of_member
-returns-in_default-of_member g c =
+pub returns-in_default-found : goal.returns-in_default-found
+returns-in_default-found g c =
     let is_list : IsList (option_map (λ v. view v.now) c.args.list) c.deref-member-items.result.now = record {
       value = view c.in-Some.list.now;
       there = search rules;
       values = search rules;
     } in
     sym (listed_as g.T.ListedPart.stated _ _ _ is_list (sym c.loop-member.invariant
-    ∙ goes_on-fails g.T.ListedPart.stated c.loop-member.parts.items c.deref-member-items.result.now c.loop-member.member-index c.member-item.result c.loop-member-test.true c.member-item.is c.in_default-of_member.ensures))
+    ∙ goes_on-fails g.T.ListedPart.stated c.loop-member.parts.items c.deref-member-items.result.now c.loop-member.member-index c.member-item.result c.loop-member-test.true c.member-item.is (sym c.in_default-found.is ∙ c.in_ok-found.ensures)))
