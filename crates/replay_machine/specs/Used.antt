@@ -26,8 +26,8 @@ pinning f passes = count_by (λ pass. is_pin_of f pass.frame) passes
 abbrev pub loading : ℕ → List Pass → ℕ
 loading f passes = count_by (λ pass. is_load_of f pass.frame) passes
 
--- An empty frame is used by no pass, a loading one is loaded by one, and one that is ready has as many pins as passes have
--- pinned it.
+-- An empty frame is used by no pass, a loading one is loaded by one, and one that is ready has as many pins as passes
+-- have pinned it.
 abbrev pub FitsUse : FrameState ℕ → ℕ → ℕ → Type 0
 FitsUse Empty pinned loaded = (pinned ≡ 0) × (loaded ≡ 0)
 FitsUse (Loading key) pinned loaded = (pinned ≡ 0) × (loaded ≡ 1)
