@@ -1,6 +1,6 @@
 -- A registry of the walks of plans, and what an attach leaves of it. This project's own.
-use Rattle.std.specs.Prelude.{◌≡◌, ◌≢◌, ◌⊎◌, ℕ, ◌-◌, ◌≤◌, List, ◌∷◌, ◌++◌, Option, Some, Result, Ok, Err, false, length, take, All}
-use Rattle.std.specs.Prelude.{AllPairs}
+use Rattle.std.specs.Prelude.{◌≡◌, ◌≢◌, ◌⊎◌, ℕ, ◌-◌, ◌≤◌, List, [], ◌∷◌, ◌++◌, length, take, All, AllPairs}
+use Rattle.std.specs.Prelude.{Option, Some, Result, Ok, Err, false}
 use Rattle.std.specs.Map.{keys_of}
 use Rattle.std.specs.declared.alloc.AllocError.{AllocError}
 use Rattle.lru.specs.LruCache.{LruCache}

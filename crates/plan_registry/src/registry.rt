@@ -83,8 +83,8 @@ impl<C: Planned> Registry<C> {
               last = seat.new.last;
               gave = seat.new.gave;
             } }
-        ensures attached { IfOk result (λ cursor. HasAttached C.tag_of seat.old.tag plan seat.new.last seat.new.gave
-            cursor) }
+        ensures attached { IfOk result
+            (λ cursor. HasAttached C.tag_of seat.old.tag plan seat.new.last seat.new.gave cursor) }
         ensures memory { IfErr result (λ _. HasKept C.tag_of seat.old.tag seat.new.last seat.new.gave) }
     {
         match self.look(rt, seat, plan) {
@@ -134,8 +134,8 @@ impl<C: Planned> Registry<C> {
               last = seat.new.last;
               gave = seat.new.gave;
             } }
-        ensures attached { IfOk result (λ cursor. HasAttached C.tag_of seat.old.tag plan seat.new.last seat.new.gave
-            cursor) }
+        ensures attached { IfOk result
+            (λ cursor. HasAttached C.tag_of seat.old.tag plan seat.new.last seat.new.gave cursor) }
         ensures memory { IfErr result (λ _. HasKept C.tag_of seat.old.tag seat.new.last seat.new.gave) }
     {
         let (walk, cursor) = new_walk(alloc, plan, starts)?;
@@ -161,8 +161,8 @@ impl<C: Planned> Registry<C> {
               last = seat.new.last;
               gave = seat.new.gave;
             } }
-        ensures attached { IfOk result (λ cursor. HasAttached C.tag_of seat.old.tag plan seat.new.last seat.new.gave
-            cursor) }
+        ensures attached { IfOk result
+            (λ cursor. HasAttached C.tag_of seat.old.tag plan seat.new.last seat.new.gave cursor) }
         ensures memory { IfErr result (λ _. HasKept C.tag_of seat.old.tag seat.new.last seat.new.gave) }
     {
         let mut walks = self.lock.take(rt, seat);

@@ -1,5 +1,5 @@
 // What is done with the walks while the turn is had.
-ghost use Rattle.std.specs.Prelude.{◌≡◌, ◌≤◌, length};
+ghost use Rattle.std.specs.Prelude.{◌≡◌};
 ghost use Rattle.plan_registry.specs.Registries.{IsByPlan, HasLooked, HasNone, HasPut, IsNew, most_plans};
 
 use crate::cursor::Cursor;
