@@ -4,8 +4,8 @@ use Rattle.std.specs.Fmt.{digits}
 use Rattle.percent_encoding.specs.Percent.{percent_decode}
 use Rattle.http_text.specs.declared.heads.HeadParts.{HeadParts}
 use Rattle.http_text.specs.declared.routes.Route.TheVariants.{Tiles, Prefix}
-use Rattle.http_front.specs.Requests.{Request, too_long, bad, whole}
-use Rattle.http_front.specs.Table.{refused, busy, text, going_on, closing, replies, asks, decision, answer_reply, Exchange, closes_after, reply_bytes}
+use Rattle.http_front.specs.Requests.{too_long, bad, whole}
+use Rattle.http_front.specs.Table.{refused, busy, text, going_on, closing, replies, asks, decision, answer_reply, closes_after, reply_bytes}
 
 crlf : List ℕ
 crlf = 13 ∷ 10 ∷ []

@@ -3,3 +3,4 @@ pub mod Filling
 pub mod Requests
 pub mod Table
 pub mod Deciding
+pub mod Talk
