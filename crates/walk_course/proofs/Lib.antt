@@ -1,0 +1,4 @@
+pub mod Children
+pub mod Bounds
+pub mod Steps
+pub mod Reading
