@@ -13,3 +13,6 @@ pub use course::PlanWalk;
 pub use paused::Paused;
 pub use publish::{Advanced, advance, begin, publish_next};
 pub use tag::WalkTag;
+
+#[cfg(test)]
+mod tests;

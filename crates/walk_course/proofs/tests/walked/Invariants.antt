@@ -1,0 +1,9 @@
+use Rattle.std.proofs.Common.{◌≡◌, false}
+use Rattle.walk_course.proofs.tests.walked.Given as goal
+
+abbrev pub invariant-loop : goal.invariant-loop
+invariant-loop l = record {
+  table : l.seat.table ≡ l.initial.seat.table;
+  tag : l.seat.tag ≡ l.initial.seat.tag;
+  idle : l.seat.has_work ≡ false;
+}
