@@ -4,3 +4,5 @@ pub mod Viewed
 pub mod Steps
 pub mod Whole
 pub mod Sound
+pub mod Slashes
+pub mod Naming

@@ -117,7 +117,7 @@ impl Held<'_> {
         }
     }
 
-    fn any_names_no_view(&self, used: &[Used]) -> bool
+    pub fn any_names_no_view(&self, used: &[Used]) -> bool
         ensures { result ≡ list_any (λ u. names_no_view_of self.now u.availability) used.now }
     {
         used.iter().any(|one| self.names_no_view(one))
