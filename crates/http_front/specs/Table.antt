@@ -1,5 +1,5 @@
--- The reply to a request, as one table whose first row that holds decides (this project's own; the statuses by RFC 9110,
--- section 15; a reply to HEAD has no body, section 9.3.2; connections by RFC 9112, section 9).
+-- The reply to a request, as one table whose first row that holds decides (this project's own; the statuses by RFC
+-- 9110, section 15; a reply to HEAD has no body, section 9.3.2; connections by RFC 9112, section 9).
 use Rattle.std.specs.Prelude.{ℕ, ◌==◌, Bool, true, false, ◌||◌, List, [], ◌∷◌, ◌++◌, length, codes}
 use Rattle.std.specs.Prelude.{if◌then◌else◌}
 use Rattle.implicit_tiling.specs.Text.{refused_text}

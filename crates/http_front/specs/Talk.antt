@@ -1,4 +1,5 @@
--- What is said on a connection: its requests, in order, each with its reply (this project's own; RFC 9112, section 9.3).
+-- What is said on a connection: its requests, in order, each with its reply (this project's own; RFC 9112, section
+-- 9.3).
 use Rattle.std.specs.Prelude.{ℕ, ◌≡◌, ◌+◌, ◌⊎◌, true, false, List, [], ◌∷◌, ◌++◌, length, map, Option, IfSome}
 use Rattle.std.specs.Io.KnownBytes.{Appends, Consumes}
 use Rattle.http_text.specs.declared.routes.Route.{Route}

@@ -8,8 +8,8 @@ use std::alloc::{AllocError, Global};
 use std::fmt::Write;
 use std::test::Fail;
 
-// What is next on a link, again and again: the lengths of heads, each handed out, and the word for what ends it. After a
-// take that failed it goes on.
+// What is next on a link, again and again: the lengths of heads, each handed out, and the word for what ends it. After
+// a take that failed it goes on.
 fn told(alloc: Global, bytes: &[u8], piece: usize, failing: u64) -> Result<String, Fail>
     requires { 1 ≤ piece }
 {
