@@ -25,14 +25,16 @@ use Rattle.tile_coords.specs.declared.walk_end.WalkEnd.{WalkEnd}
 use Rattle.tile_coords.specs.declared.walk_end.WalkEnd.TheVariants.{Partial}
 use Rattle.subtree_outcome.specs.declared.outcome.Outcome.{Outcome}
 use Rattle.subtree_outcome.specs.declared.outcome.Outcome.TheVariants.{Good, Bad}
-use Rattle.subtree_outcome.specs.Outcomes.{outcome_seen, IsOutcomeAt}
-use Rattle.region_cursor.specs.Cursor.{Cursor, cursor_key, next_root, local_level_of, Fits as FitsStep, HasNoOrphan, IsRootKey, IsTileWord, IsWalkOf, IsSameWalk}
+use Rattle.subtree_outcome.specs.Outcomes.{outcome_seen, IsOutcomeAt, HasNoOrphans}
+use Rattle.subtree_outcome.specs.Found.{IsTileWord, EndsWithin}
+use Rattle.subtree_outcome.proofs.Orphans.{files_have_none}
+use Rattle.region_cursor.specs.Cursor.{Cursor, cursor_key, next_root, local_level_of, Fits as FitsStep, IsRootKey, IsWalkOf, IsSameWalk}
 use Rattle.region_cursor.specs.Moves.{moved_on, end_by_key, room, made_by, made}
 use Rattle.region_cursor.specs.Walked.{IsAt, IsNextKey, GivesStep}
-use Rattle.region_cursor.proofs.Callers.{walk_stays, next_root_of_key, outcome_fits, read_whole, key_is_of_a_root_tile}
-use Rattle.region_cursor.proofs.Joined.{key_is, leaves_after}
+use Rattle.region_cursor.proofs.Callers.{walk_stays, next_root_of_key, outcome_fits, words_of_the_layout, key_is, key_is_of_a_root_tile}
+use Rattle.region_cursor.proofs.Joined.{leaves_after}
 use Rattle.walk_course.specs.Walk.{Walk, GoesOn, IsPaused, IsReadFor}
-use Rattle.walk_course.specs.Course.{IsAnswerWord, IsEndOf, IsAfter, IsHead, Fits, IsNextRoot, IsToldFor, MakesStep}
+use Rattle.walk_course.specs.Course.{IsAnswerWord, IsAfter, IsHead, Fits, IsNextRoot, IsToldFor, MakesStep}
 use Rattle.walk_course.specs.declared.tag.WalkTag.{WalkTag}
 use Rattle.walk_course.proofs.Bounds.{stays_within}
 
@@ -91,20 +93,20 @@ fits_step w found next same root some read =
     fits_with_key w found key.0 key.1 (root_of_key w.state key.0 next same key.1 root) read
 
 -- the end of a step is one of the layout
-end_by : (layout : Layout) (found : Option ℕ) → IsEndOf layout (end_by_key found)
+end_by : (layout : Layout) (found : Option ℕ) → EndsWithin layout (end_by_key found)
 end_by layout None = tt
 end_by layout (Some key) = tt
 
-end_by_more : (layout : Layout) (more : Bool) (words : List ℕ) (c : Cursor) → IsEndOf layout (made_by more words c).end
+end_by_more : (layout : Layout) (more : Bool) (words : List ℕ) (c : Cursor) → EndsWithin layout (made_by more words c).end
 end_by_more layout true words c = tt
 end_by_more layout false words c = end_by layout (cursor_key (moved_on c))
 
 end_is_of : (layout own : Layout) (region : Region) (c : Cursor) (found : Outcome) (key : ℕ) (t : Tile) → IsWalkOf layout region c → cursor_key c ≡ Some key → IsRootKey c key
-    → IsOutcomeAt own t found → IsEndOf layout (made c found).end
+    → IsOutcomeAt own t found → EndsWithin layout (made c found).end
 end_is_of layout own region c (Good st) key t of_plan at root read =
     end_by_more layout (nat_lt (room c) (length (level_words st c.region (local_level_of c)))) (take (room c) (level_words st c.region (local_level_of c))) _
 end_is_of layout own region c (Bad number) key t of_plan at root read =
-    (subst (λ w. IsRootWord layout (word_level w) w) (sym (get_or_from_slice_get c.roots c.position key 0 at)) (key_is layout region c key of_plan root), read.0, read.1)
+    record { root = subst (λ w. IsRootWord layout (word_level w) w) (sym (get_or_from_slice_get c.roots c.position key 0 at)) (key_is layout region c key of_plan root); some = read.0; most = read.1 }
 
 -- one step more over a scene
 last_of : (e : StepEnd) (xs : List Step) (x : Step) → last_end e (xs ++ x ∷ []) ≡ x.end
@@ -181,40 +183,38 @@ pub record Stepped (c after : Cursor) (found : Outcome) (words : List ℕ) (end 
   pub end_is : end ≡ (made c found).end
   pub after_is : after ≡ (made c found).after
   pub few : c.count + length words ≤ most_tiles
-  pub are_words : All (IsTileWord c.scheme c.contents) words
+  pub are_words : All (IsTileWord c.scheme c.levels c.contents) words
   pub same : IsSameWalk c after
-  pub scene : (s : Scene) (k : ℕ) → IsAt s c.region k c → outcome_seen found ≡ s.outcome (next_root c) → HasNoOrphan found
+  pub scene : (s : Scene) (k : ℕ) → HasNoOrphans s → IsAt s c.region k c → outcome_seen found ≡ s.outcome (next_root c)
       → GivesStep s c.region k words end × IsAt s c.region (k + 1) after
 
 -- where files are told: the walk after the step
-told_step : (tag : WalkTag) (k n : ℕ) (w : Walk) (found : Outcome) (words : List ℕ) (end : WalkEnd) (after : Cursor) → Stepped w.state after found words end → HasNoOrphan found
+told_step : (tag : WalkTag) (k n : ℕ) (w : Walk) (found : Outcome) (words : List ℕ) (end : WalkEnd) (after : Cursor) → Stepped w.state after found words end
     → IsHead tag k n Partial → Fits tag k n Partial w → IsToldFor tag w found
     → IfSome tag.told (λ all. IsNext (scene_of all tag.layout) tag.region k n words end × IsAt (scene_of all tag.layout) tag.region (k + 1) after)
-told_step tag k n w found words end after stepped whole head fits told =
+told_step tag k n w found words end after stepped head fits told =
     if_told tag.told
     (λ all. IsAfter (scene_of all tag.layout) tag.region k n Partial × (IsAt (scene_of all tag.layout) tag.region k w.state
     × ((scene_of all tag.layout).outcome (next_root w.state) ≡ outcome_seen found)))
     (λ all. IsNext (scene_of all tag.layout) tag.region k n words end × IsAt (scene_of all tag.layout) tag.region (k + 1) after)
     (λ all is. let s = scene_of all tag.layout in
     let region = fits.of_plan.same_region in
-    let made_here = stepped.scene s k (subst (λ (r : Region). IsAt s r k w.state) (sym region) is.1.0) (sym is.1.1) whole in
+    let made_here = stepped.scene s k (files_have_none all tag.layout) (subst (λ (r : Region). IsAt s r k w.state) (sym region) is.1.0) (sym is.1.1) in
     let gives = subst (λ (r : Region). GivesStep s r k words end) region made_here.0 in
     (next_of s tag.region k n words end (slice_get (steps s tag.region) k) fits.of_plan.some_levels is.0 refl gives, subst (λ (r : Region). IsAt s r (k + 1) after) region made_here.1))
     (if_both tag.told _ _ head.of_steps (if_both tag.told _ _ fits.of_steps told))
 
 -- a word of the layout
-word_of_layout : (layout : Layout) (region : Region) (c : Cursor) (words : List ℕ) (i : ℕ) → IsWalkOf layout region c → All (IsTileWord c.scheme c.contents) words → i < length words
-    → IsTileWord layout.scheme (length layout.contents) (slice_index words i)
-word_of_layout layout region c words i of_plan are low =
-    subst (λ n. IsTileWord layout.scheme n (slice_index words i)) of_plan.same_contents
-    (subst (λ (e : Scheme). IsTileWord e c.contents (slice_index words i)) of_plan.same_scheme (are i 0 low))
+word_of_layout : (layout : Layout) (region : Region) (c : Cursor) (words : List ℕ) (i : ℕ) → IsWalkOf layout region c → All (IsTileWord c.scheme c.levels c.contents) words → i < length words
+    → IsTileWord layout.scheme layout.levels (length layout.contents) (slice_index words i)
+word_of_layout layout region c words i of_plan are low = words_of_the_layout layout region c words of_plan are i 0 low
 
 made_with_key : (tag : WalkTag) (k n : ℕ) (w : Walk) (found : Outcome) (words : List ℕ) (end : WalkEnd) (after : Cursor) (key : ℕ) → Stepped w.state after found words end
     → IsPaused (record { state = after; steps = w.steps + 1; end = end }) → cursor_key w.state ≡ Some key → IsRootKey w.state key → w.state.level ≤ w.state.region.level
     → IsReadFor w found → IsHead tag k n Partial → Fits tag k n Partial w → IsToldFor tag w found
     → MakesStep tag k n words end (record { state = after; steps = w.steps + 1; end = end })
 made_with_key tag k n w found words end after key stepped paused at root within read head fits told =
-    let steps_told = told_step tag k n w found words end after stepped (read_whole read.layout (next_root w.state) found read.read) head fits told in
+    let steps_told = told_step tag k n w found words end after stepped head fits told in
     let next = λ (all : Files). IsNext (scene_of all tag.layout) tag.region k n words end × IsAt (scene_of all tag.layout) tag.region (k + 1) after in
     let leaves = leaves_after w.state after found key words at within stepped.after_is stepped.words_are in
     let end_of = end_is_of tag.layout read.layout tag.region w.state found key (next_root w.state) fits.of_plan at root read.read in
@@ -226,7 +226,7 @@ made_with_key tag k n w found words end after key stepped paused at root within 
       head = record {
         few_steps = omega (arith, paused.few_steps, fits.steps_are);
         few_words = omega (arith, stepped.few, fits.count_is);
-        of_layout = subst (λ (e : WalkEnd). IsEndOf tag.layout e) (sym stepped.end_is) end_of;
+        of_layout = subst (λ (e : WalkEnd). EndsWithin tag.layout e) (sym stepped.end_is) end_of;
         at_first = λ none. absurd (omega (arith, none));
         of_steps = if_told tag.told next (λ all. IsAfter (scene_of all tag.layout) tag.region (k + 1) (n + length words) end) (λ all is. is.0.after) steps_told;
       };

@@ -3,21 +3,20 @@
 use Rattle.std.specs.Prelude.{ℕ, ◌≡◌, ◌+◌, ◌<◌, ◌≤◌, ◌^◌, List, length, take, map, Some, slice_get, slice_index, IfSome}
 use Rattle.std.specs.List.{flat_map}
 use Rattle.implicit_tiling.specs.Region.{Region}
-use Rattle.implicit_tiling.specs.Scene.{Layout, Scene}
-use Rattle.implicit_tiling.specs.Limits.{most_subtree_fault}
-use Rattle.implicit_tiling.specs.Code.{tile_word, word_level, word_tile}
+use Rattle.implicit_tiling.specs.Scene.{Scene}
+use Rattle.implicit_tiling.specs.Code.{tile_word, word_tile}
 use Rattle.implicit_tiling.specs.Availability.{IsRootOf}
 use Rattle.implicit_tiling.specs.Answer.{most_tiles, answer}
 use Rattle.implicit_tiling.specs.Steps.{partial, steps}
 use Rattle.implicit_tileset.specs.Scene.{scene_of}
 use Rattle.walk_laws.specs.Stepped.{last_end}
-use Rattle.tile_word.specs.Roots.{IsRootWord}
 use Rattle.tile_coords.specs.Ends.{end_seen}
 use Rattle.tile_coords.specs.declared.walk_end.WalkEnd.{WalkEnd}
-use Rattle.tile_coords.specs.declared.walk_end.WalkEnd.TheVariants.{Partial, Complete, TooMany, Fault}
+use Rattle.tile_coords.specs.declared.walk_end.WalkEnd.TheVariants.{Partial}
 use Rattle.subtree_outcome.specs.declared.outcome.Outcome.{Outcome}
 use Rattle.subtree_outcome.specs.Outcomes.{outcome_seen}
-use Rattle.region_cursor.specs.Cursor.{IsTileWord, IsWalkOf, next_root}
+use Rattle.subtree_outcome.specs.Found.{IsTileWord, EndsWithin}
+use Rattle.region_cursor.specs.Cursor.{IsWalkOf, next_root}
 use Rattle.region_cursor.specs.Walked.{IsAt, IsNextKey}
 use Rattle.walk_course.specs.Walk.{Walk}
 use Rattle.walk_course.specs.declared.tag.WalkTag.{WalkTag}
@@ -26,18 +25,11 @@ use Rattle.walk_course.specs.declared.tag.WalkTag.{WalkTag}
 abbrev pub IsAnswerWord : Scene → Region → ℕ → ℕ → Type 0
 IsAnswerWord s region place word = slice_get (map (tile_word s) (answer s region).tiles) place ≡ Some word
 
--- a word of the course: of a tile, with a mask of the layout's contents; and where files are told, that of the answer
+-- a word of the course: of a tile of the layout, with a mask of its contents; and where files are told, that of the
+-- answer
 pub record IsWordAt (tag : WalkTag) (place word : ℕ) : Type 0 where
-  pub of_layout : IsTileWord tag.layout.scheme (length tag.layout.contents) word
+  pub of_layout : IsTileWord tag.layout.scheme tag.layout.levels (length tag.layout.contents) word
   pub of_answer : IfSome tag.told (λ all. IsAnswerWord (scene_of all tag.layout) tag.region place word)
-
--- a fault is of a root of the layout, and its number stands in the table of subtree faults
-abbrev pub IsEndOf : Layout → WalkEnd → Type 0
-IsEndOf layout Partial = Unit {0}
-IsEndOf layout Complete = Unit {0}
-IsEndOf layout TooMany = Unit {0}
-IsEndOf layout (Fault root number) = IsRootWord layout (word_level root) root × (1 ≤ number)
-    × (number ≤ most_subtree_fault)
 
 -- the first steps of a walk have so many tiles, and the last of them this end
 pub record IsAfter (s : Scene) (region : Region) (made count : ℕ) (end : WalkEnd) : Type 0 where
@@ -49,7 +41,7 @@ pub record IsAfter (s : Scene) (region : Region) (made count : ℕ) (end : WalkE
 pub record IsHead (tag : WalkTag) (made count : ℕ) (end : WalkEnd) : Type 0 where
   pub few_steps : made < 2 ^ 45
   pub few_words : count ≤ most_tiles
-  pub of_layout : IsEndOf tag.layout end
+  pub of_layout : EndsWithin tag.layout end
   pub at_first : made ≡ 0 → (count ≡ 0) × (end ≡ Partial)
   pub of_steps : IfSome tag.told (λ all. IsAfter (scene_of all tag.layout) tag.region made count end)
 

@@ -8,17 +8,18 @@ use Rattle.implicit_tileset.specs.Scene.{scene_of}
 use Rattle.tile_coords.specs.declared.walk_end.WalkEnd.{WalkEnd}
 use Rattle.tile_coords.specs.declared.walk_end.WalkEnd.TheVariants.{Partial, Complete, TooMany, Fault}
 use Rattle.published_prefix.specs.Heads.{FitsFaultWord}
-use Rattle.walk_course.specs.Course.{IsEndOf, IsAfter, IsHead}
+use Rattle.subtree_outcome.specs.Found.{EndsWithin}
+use Rattle.walk_course.specs.Course.{IsAfter, IsHead}
 use Rattle.walk_course.specs.declared.tag.WalkTag.{WalkTag}
 
 pub few_steps : (tag : WalkTag) (made count : ℕ) (end : WalkEnd) → IsHead tag made count end → made < 2 ^ 45
 few_steps tag made count end head = head.few_steps
 
-end_fits : (layout : Layout) (end : WalkEnd) → IsEndOf layout end → FitsFaultWord end
+end_fits : (layout : Layout) (end : WalkEnd) → EndsWithin layout end → FitsFaultWord end
 end_fits layout Partial is = tt
 end_fits layout Complete is = tt
 end_fits layout TooMany is = tt
-end_fits layout (Fault root number) is = (is.0.no_mask, omega (arith, is.2))
+end_fits layout (Fault root number) is = (is.root.no_mask, omega (arith, is.most))
 
 pub fault_fits : (tag : WalkTag) (made count : ℕ) (end : WalkEnd) → IsHead tag made count end → FitsFaultWord end
 fault_fits tag made count end head = end_fits tag.layout end head.of_layout

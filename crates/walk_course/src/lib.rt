@@ -1,7 +1,7 @@
 //! The paused walk of a plan as a course of published words: which word stands at each place, which steps, words and
 //! ends go together, and which walk goes on from there. Where the files are told, the words are those of the answer and
-//! each publication is the next step of the walk; where they are not, each word is a tile's, and a fault's root one of
-//! the layout. The steps are counted: no walk makes as many as a head has room for.
+//! each publication is the next step of the walk; where they are not, words and faults are those of tiles of the layout.
+//! The steps are counted: no walk makes as many as a head has room for.
 #![tactic(auto)]
 
 mod course;
