@@ -3,9 +3,9 @@ ghost use Rattle.std.specs.Prelude.{ℕ, ◌≡◌, ◌≤◌, length, take, dro
 ghost use Rattle.implicit_tiling.specs.Scene.{Scene};
 ghost use Rattle.implicit_tiling.specs.Code.{word, tile_word};
 ghost use Rattle.tile_coords.specs.Ends.{end_seen};
-ghost use Rattle.subtree_outcome.specs.Outcomes.{outcome_seen};
+ghost use Rattle.subtree_outcome.specs.Outcomes.{outcome_seen, HasNoOrphans};
 ghost use Rattle.walk_laws.specs.Plans.{FitsLayout};
-ghost use Rattle.region_cursor.specs.Cursor.{cursor_key, next_root, Fits, HasNoOrphan, IsRootKey, IsWalkOf, IsSameWalk};
+ghost use Rattle.region_cursor.specs.Cursor.{cursor_key, next_root, Fits, IsRootKey, IsWalkOf, IsSameWalk};
 ghost use Rattle.replay_machine.specs.Machine.{Walk};
 ghost use Rattle.replay_machine.specs.Turns.{next_pair, page_tiles, shown_end};
 ghost use Rattle.replay_core.specs.Shown.{GoesOn, Shows, stepped};
@@ -81,11 +81,10 @@ impl ShownWalk {
     pub fn step(&mut self, outcome: &Outcome) -> Result<u64, AllocError>
         requires key { IsSome (cursor_key self.old.cursor) }
         requires fits { Fits self.old.cursor outcome.now }
-        requires whole { HasNoOrphan outcome.now }
         ensures count { IfOk result (λ tiles. tiles ≡ length self.new.words) }
         ensures same { IfOk result (λ tiles. IsSameWalk self.old.cursor self.new.cursor) }
         ensures unchanged { IfErr result (λ e. self.new ≡ self.old) }
-        ensures scene { IfOk result (λ tiles. (s : Scene) (walk : Walk) → Shows s walk self.old
+        ensures scene { IfOk result (λ tiles. (s : Scene) (walk : Walk) → HasNoOrphans s → Shows s walk self.old
             → outcome_seen outcome.now ≡ s.outcome (next_root self.old.cursor) → Shows s (stepped walk) self.new) }
     {
         self.words.extend_from_slice(&self.fresh)?;
