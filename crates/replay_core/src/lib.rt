@@ -5,3 +5,6 @@
 mod shown_walk;
 
 pub use shown_walk::ShownWalk;
+
+#[cfg(test)]
+mod tests;
