@@ -76,7 +76,9 @@ def problems(document, folder):
                 script += [command, f"echo '{END}'"]
                 wanted.append((command, lines))
     path = os.path.join(folder, "crates", "view", "out") + ":" + os.environ["PATH"]
-    environment = {**os.environ, "PATH": path, "HOME": home, "LC_ALL": "C.UTF-8"}
+    # A make that runs these checks isn't one that the commands know of: theirs would tell of it.
+    known = {name: value for name, value in os.environ.items() if name not in ("MAKEFLAGS", "MAKELEVEL", "MFLAGS")}
+    environment = {**known, "PATH": path, "HOME": home, "LC_ALL": "C.UTF-8"}
     done = subprocess.run(["bash", "-c", "\n".join(script)], env=environment,
                           stdin=subprocess.DEVNULL, stdout=subprocess.PIPE, timeout=300)
     printed = done.stdout.decode(errors="replace").split(END + "\n")
