@@ -13,6 +13,3 @@ mod victim;
 pub use frame::{Asked, FrameState};
 pub use order::Order;
 pub use pool::Pool;
-
-#[cfg(test)]
-mod tests;

@@ -1,4 +1,3 @@
 pub mod Heads
 pub mod Prefixes
 pub mod Seats
-pub mod Samples

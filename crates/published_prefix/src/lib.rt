@@ -23,6 +23,3 @@ pub use prefix::{Laid, MOST_WORDS, Page, Prefix};
 pub use seat::{PrefixSeat, Seated};
 pub use steps::{Opening, Published};
 pub use view::{Half, Turn, View};
-
-#[cfg(test)]
-mod tests;

@@ -19,6 +19,3 @@ pub use note::{Grants, Load, Note, Pin};
 pub use pass::PoolPass;
 pub use rule::{PoolRule, Pooled};
 pub use shared::{PoolTag, Shared};
-
-#[cfg(test)]
-mod tests;

@@ -1,5 +1,5 @@
 use Rattle.std.proofs.Common.{◌≡◌, ◌≤◌}
-use Rattle.published_prefix.proofs.tests.Walker.read.Given as goal
+use Rattle.sharing_trials.proofs.prefixes.Walker.read.Given as goal
 
 abbrev pub invariant-loop : goal.invariant-loop
 invariant-loop g l = l.place ≤ 65536

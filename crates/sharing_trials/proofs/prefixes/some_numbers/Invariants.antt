@@ -1,5 +1,5 @@
 use Rattle.std.proofs.Common.{◌≡◌, ◌<◌, ◌+◌, ◌*◌, ◌^◌, ℕ, length, slice_index}
-use Rattle.published_prefix.proofs.tests.some_numbers.Given as goal
+use Rattle.sharing_trials.proofs.prefixes.some_numbers.Given as goal
 
 abbrev pub invariant-loop-i : goal.invariant-loop-i
 invariant-loop-i l = (length l.words.items ≡ l.i) × ((j : ℕ) → j < l.i → slice_index l.words.items j ≡ (l.first + j) * 2 ^ 64 + (l.first + j))

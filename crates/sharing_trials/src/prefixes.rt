@@ -3,12 +3,12 @@
 ghost use Rattle.std.specs.Prelude.{◌≡◌, ℕ, ◌+◌, ◌*◌, ◌^◌, ◌<◌, ◌≤◌, true, false, length, slice_index, IfOk};
 ghost use Rattle.std.specs.Arc.{arc_value};
 ghost use Rattle.published_prefix.specs.Heads.{FitsFaultWord};
-ghost use Rattle.published_prefix.specs.Samples.{any_begins, IsNumberedHead};
-ghost use Rattle.published_prefix.specs.Samples.{numbered_steps_are_few, numbered_faults_fit, numbered_begins};
+ghost use Rattle.sharing_trials.specs.Samples.{any_begins, IsNumberedHead};
+ghost use Rattle.sharing_trials.specs.Samples.{numbered_steps_are_few, numbered_faults_fit, numbered_begins};
 ghost use Rattle.tile_coords.specs.declared.walk_end.WalkEnd.TheVariants.{Partial, Complete};
 
-use crate::{Course, Prefix, PrefixSeat};
 use contract_tokens::Tells;
+use published_prefix::{Course, Prefix, PrefixSeat};
 use std::alloc::{AllocError, Global};
 use std::sync::{Arc, Wait};
 use std::test::Fail;

@@ -1,6 +1,6 @@
 use Rattle.std.proofs.Common.{ℕ, refl, ap}
 use Rattle.shared_pool.specs.declared.note.Note.{Note}
-use Rattle.shared_pool.proofs.tests.Reader.read.Goals as goal
+use Rattle.sharing_trials.proofs.pools.Reader.read.Goals as goal
 
 pub unpin-requires : goal.unpin-requires
 unpin-requires g c = (_, ap (λ (n : Note ℕ ℕ). n.pin) c.in-Hit.ensures.answer.1.3.2.4)

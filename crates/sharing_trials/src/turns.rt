@@ -3,12 +3,12 @@
 ghost use Rattle.std.specs.Prelude.{◌≡◌, ◌≤◌, None, IfOk, IfSome};
 ghost use Rattle.std.specs.Arc.{arc_value};
 
-use crate::{Divides, Notes, Opens, Seat, TurnLock, TurnRule};
 use std::alloc::{AllocError, Global};
 use std::marker::PhantomData;
 use std::sync::{Arc, Wait};
 use std::test::Fail;
 use std::thread::{Threads, join};
+use turn_lock::{Divides, Notes, Opens, Seat, TurnLock, TurnRule};
 
 const ROUNDS: u32 = 10_000;
 

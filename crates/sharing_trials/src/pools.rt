@@ -3,8 +3,8 @@
 ghost use Rattle.std.specs.Prelude.{◌≡◌, ◌*◌, ◌<◌, true, Some, None, IfOk, IfErr, IfSome};
 ghost use Rattle.shared_pool.specs.Fits.{IsIdle};
 
-use crate::{Host, Pinned, PoolPass, PoolRule};
 use contract_tokens::Tells;
+use shared_pool::{Host, Pinned, PoolPass, PoolRule};
 use std::alloc::{AllocError, Global};
 use std::sync::{Arc, Wait};
 use std::test::Fail;

@@ -1,8 +1,8 @@
 use Rattle.std.proofs.Common.{ℕ, refl, sym, ap, ◌∙◌}
 use Rattle.std.proofs.lemmas.Bool.{true≢false}
 use Rattle.shared_pool.specs.declared.note.Note.{Note}
-use Rattle.shared_pool.proofs.tests.is_granted.Goals as goal
-use Rattle.shared_pool.proofs.tests.is_granted.Goals.{in-Granted, in_default}
+use Rattle.sharing_trials.proofs.pools.is_granted.Goals as goal
+use Rattle.sharing_trials.proofs.pools.is_granted.Goals.{in-Granted, in_default}
 
 pub returns-clause-granted : goal.returns-clause-granted
 returns-clause-granted g c said = elim c.match-matches.branch [

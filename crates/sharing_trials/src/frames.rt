@@ -3,7 +3,7 @@ ghost use Rattle.std.specs.Prelude.{◌≡◌, ◌-◌, ◌^◌, ◌<◌, true};
 ghost use Rattle.frame_pool.specs.States.{pins_of};
 ghost use Rattle.frame_pool.specs.Frames.{EachFrame, IsPinnedAt};
 
-use crate::{Asked, FrameState, Pool};
+use frame_pool::{Asked, FrameState, Pool};
 use std::test::Fail;
 
 // Whether another pin may come to each frame.
