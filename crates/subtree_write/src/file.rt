@@ -7,6 +7,7 @@ ghost use Rattle.subtree_write.specs.Canonical.{canonical, padded, file_of};
 use crate::streams::{Streams, pad};
 use crate::values::json_value;
 use availability::Subtree;
+use bitstream::Bits;
 use serde_json::Value;
 use std::alloc::{AllocError, Global};
 
@@ -17,7 +18,7 @@ pub fn encode(alloc: Global, subtree: &Subtree, out: &mut Vec<u8>) -> Result<(),
     ensures ok { OnOk result (out.new.items ≡ out.old.items ++ canonical subtree.now) }
     ensures err { OnErr result (out.new.items ≡ out.old.items) }
 {
-    let mut streams = Streams::new(alloc);
+    let mut streams = Streams::with_room(alloc, most_bytes(subtree))?;
     let tiles = streams.write(alloc, &subtree.tiles)?;
     let contents = streams.write_each(alloc, &subtree.contents)?;
     let child = streams.write(alloc, &subtree.child)?;
@@ -30,6 +31,18 @@ pub fn encode(alloc: Global, subtree: &Subtree, out: &mut Vec<u8>) -> Result<(),
         out.truncate(start);
     }
     appended
+}
+
+// As many bytes as the bitstreams of a subtree fill at most, so that they are not moved while they grow.
+fn most_bytes(subtree: &Subtree) -> usize {
+    let node_streams = 1 + subtree.contents.len() as u64;
+    let nodes = stream_size(&subtree.tiles).saturating_mul(node_streams);
+    nodes.saturating_add(stream_size(&subtree.child)) as usize
+}
+
+// The bytes of a bitstream, filled up to a multiple of 8.
+fn stream_size(bits: &Bits) -> u64 {
+    bits.count().div_ceil(64).saturating_mul(8)
 }
 
 // The text of a value, filled up by spaces.

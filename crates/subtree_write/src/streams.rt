@@ -18,14 +18,15 @@ pub(crate) struct Streams {
 impl Streams {
     ghost use Rattle.subtree_write.specs.Added.{Adds};
 
-    pub fn new(alloc: Global) -> Streams
-        ensures views { result.views.items ≡ [] }
-        ensures bytes { result.bytes.items ≡ [] }
+    /// None yet, with room for so many bytes.
+    pub fn with_room(alloc: Global, room: usize) -> Result<Streams, AllocError>
+        ensures views { IfOk result (λ streams. streams.views.items ≡ []) }
+        ensures bytes { IfOk result (λ streams. streams.bytes.items ≡ []) }
     {
-        Streams {
+        Ok(Streams {
             views: Vec::new(alloc),
-            bytes: Vec::new(alloc),
-        }
+            bytes: Vec::with_capacity(alloc, room)?,
+        })
     }
 
     /// The value of an availability. Bits of both kinds are added as the next bitstream.

@@ -17,13 +17,13 @@ pub returns-clause-ok : goal.returns-clause-ok
 returns-clause-ok c =
     let i = c.subtree.inside in
     let s : Subtree = record { scheme = i.scheme; levels = i.levels; cut = i.cut; root = i.root; tiles = i.tiles; contents = i.contents.items; child = i.child } in
-    let start = c.new-streams.result in
+    let start = c.in_ok-streams.streams in
     let tiled = c.write.new.self in
     let filled = c.write_each.new.self in
     let after = c.write-2.new.self in
     let w : Written s start tiled filled after = record {
-      no_views = c.new-streams.ensures.views;
-      no_bytes = c.new-streams.ensures.bytes;
+      no_views = c.in_ok-streams.ensures.views;
+      no_bytes = c.in_ok-streams.ensures.bytes;
       tiles = c.in_ok-tiles.ensures.added;
       contents = rw c.deref.ensures.value at c.in_ok-contents.ensures.added;
       child = c.in_ok-child.ensures.added;
