@@ -74,6 +74,16 @@ pub fn whole_plan(layout: &Layout) -> Plan
     }
 }
 
+// The roots that are looked at in one turn.
+#[derive(Drop)]
+struct Frontier {
+    // How many subtrees each of them stands below the root.
+    turn: u32,
+    // How many roots were looked at before.
+    looked: u64,
+    roots: Vec<Word>,
+}
+
 // The check, frontier by frontier, over the region of all tiles: each turn goes down by one subtree.
 fn check<S: FileSource>(
     alloc: Global,
@@ -94,65 +104,70 @@ fn check<S: FileSource>(
     ensures fetched { IfOk result (λ end. S.fetches files.new ≡ more_by end.looked (S.fetches files.old)) }
     ensures same { S.told files.new ≡ S.told files.old }
 {
-    let mut looked = 0;
-    let mut roots = first_roots(alloc, layout.scheme)?;
+    let roots = first_roots(alloc, layout.scheme)?;
+    let mut frontier = Frontier {
+        turn: 0,
+        looked: 0,
+        roots,
+    };
     for turn in 0..layout.levels {
         let mut next = Vec::new(alloc);
-        let end = check_roots(
-            alloc, files, layout, region, turn, looked, &roots, found, &mut next,
-        )?;
+        let end = check_roots(alloc, files, layout, region, &frontier, found, &mut next)?;
         if end.more {
             return Ok(end);
         }
-        looked = end.looked;
-        roots = next;
+        frontier = Frontier {
+            turn: turn + 1,
+            looked: end.looked,
+            roots: next,
+        };
     }
     Ok(CheckEnd {
-        looked,
+        looked: frontier.looked,
         more: false,
     })
 }
 
-// Looks at the roots of a frontier, which stands `turn` subtrees below the root, as far as they are not too many.
+// Looks at the roots of a frontier, as far as they are not too many.
 fn check_roots<S: FileSource>(
     alloc: Global,
     files: &mut S,
     layout: &Layout,
     region: &Region,
-    turn: u32,
-    looked: u64,
-    roots: &[Word],
+    frontier: &Frontier,
     found: &mut Vec<FoundFault>,
     next: &mut Vec<Word>,
 ) -> Result<CheckEnd, WalkStop>
-    requires roots { AreRoots layout.now (turn * layout.now.subtree_levels) roots.now }
-    requires next { AreRoots layout.now (turn * layout.now.subtree_levels + layout.now.subtree_levels) next.old.items }
+    requires roots { AreRoots layout.now (frontier.now.turn * layout.now.subtree_levels) frontier.now.roots.items }
+    requires next { AreRoots layout.now
+        (frontier.now.turn * layout.now.subtree_levels + layout.now.subtree_levels) next.old.items }
     requires kept { length next.old.items ≤ most_roots + 1 }
     requires faults { AreFaults layout.now found.old.items }
-    requires few { looked ≤ most_roots }
+    requires few { frontier.now.looked ≤ most_roots }
     requires on_walk { IfSome (S.told files.old)
-        (λ all. All (IsOnWalk (scene_of all layout.now) region.now) roots.now) }
+        (λ all. All (IsOnWalk (scene_of all layout.now) region.now) frontier.now.roots.items) }
     ensures found { IfSome (S.told files.old)
         (λ all. IfOk result (λ end. found.new.items ≡ found.old.items ++ found_faults (scene_of all layout.now)
-        (take (end.looked - looked) roots.now))) }
+        (take (end.looked - frontier.now.looked) frontier.now.roots.items))) }
     ensures roots { IfSome (S.told files.old) (λ all. IfOk result (λ end. end.more ≡ false
         → map (word_tile layout.now.scheme) next.new.items
         ≡ take (most_roots + 1) (map (word_tile layout.now.scheme) next.old.items
         ++ flat_map (λ w. roots_below (scene_of all layout.now) region.now (word_tile layout.now.scheme w))
-        roots.now))) }
+        frontier.now.roots.items))) }
     ensures next { IfOk result
-        (λ end. AreRoots layout.now (turn * layout.now.subtree_levels + layout.now.subtree_levels) next.new.items) }
+        (λ end. AreRoots layout.now (frontier.now.turn * layout.now.subtree_levels + layout.now.subtree_levels)
+        next.new.items) }
     ensures faults { IfOk result (λ end. AreFaults layout.now found.new.items) }
-    ensures counted { IfOk result (Counts looked (length roots.now)) }
+    ensures counted { IfOk result (Counts frontier.now.looked (length frontier.now.roots.items)) }
     ensures failed { result ≡ Err WalkStop.ReadFault → Rose (S.faults files.old) (S.faults files.new) }
     ensures sure { result ≢ Err WalkStop.ReadFault → S.faults files.new ≡ S.faults files.old }
     ensures later { S.faults files.old ≤ S.faults files.new }
     ensures fetched { IfOk result (λ end. S.fetches files.new
-        ≡ more_by (end.looked - looked) (S.fetches files.old)) }
+        ≡ more_by (end.looked - frontier.now.looked) (S.fetches files.old)) }
     ensures same { S.told files.new ≡ S.told files.old }
 {
-    let mut count = looked;
-    for root in roots {
+    let mut count = frontier.looked;
+    for root in &frontier.roots {
         if count == MOST_ROOTS {
             return Ok(CheckEnd {
                 looked: count,

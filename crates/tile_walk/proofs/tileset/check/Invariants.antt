@@ -11,12 +11,13 @@ use Rattle.tile_walk.proofs.tileset.check.Given as goal
 abbrev pub invariant-loop-turn : goal.invariant-loop-turn
 invariant-loop-turn g l = record {
   at : IfSome (g.S.FileSource.told l.fn.files)
-      (λ all. IsCheckedTo (scene_of all l.fn.layout) (l.turn * l.fn.layout.subtree_levels) l.roots.items l.looked l.found.items);
-  roots_are : AreRoots l.fn.layout (l.turn * l.fn.layout.subtree_levels) l.roots.items;
+      (λ all. IsCheckedTo (scene_of all l.fn.layout) (l.frontier.turn * l.fn.layout.subtree_levels) l.frontier.roots.items l.frontier.looked l.found.items);
+  turn_is : l.frontier.turn ≡ l.turn;
+  roots_are : AreRoots l.fn.layout (l.frontier.turn * l.fn.layout.subtree_levels) l.frontier.roots.items;
   faults_are : AreFaults l.fn.layout l.found.items;
-  few : l.looked ≤ most_roots;
+  few : l.frontier.looked ≤ most_roots;
   later : g.S.FileSource.faults l.fn.files ≤ g.S.FileSource.faults l.files;
   sure : g.S.FileSource.faults l.files ≡ g.S.FileSource.faults l.fn.files;
-  fetched : g.S.FileSource.fetches l.files ≡ more_by l.looked (g.S.FileSource.fetches l.fn.files);
+  fetched : g.S.FileSource.fetches l.files ≡ more_by l.frontier.looked (g.S.FileSource.fetches l.fn.files);
   same : g.S.FileSource.told l.files ≡ g.S.FileSource.told l.fn.files;
 }
