@@ -9,6 +9,7 @@ ghost use Rattle.subtree_outcome.specs.Found.{AreTilesOf, EndsWithin};
 ghost use Rattle.tile_word.specs.Roots.{AreRoots};
 ghost use Rattle.reference_walk.specs.Walks.{Walks, word_pair, next_roots, IsWalked};
 
+use crate::found::Found;
 use crate::step::step;
 use scene_ports::FileSource;
 use std::alloc::Global;
@@ -24,23 +25,23 @@ pub(crate) fn walk_level<S: FileSource>(
     region: &Region,
     level: u32,
     roots: &[Word],
-    words: &mut Vec<Word>,
-    next: &mut Vec<Word>,
+    found: &mut Found,
 ) -> Result<WalkEnd, WalkStop>
     requires roots { AreRoots layout.now (root_level layout.now level) roots.now }
-    requires found { AreTilesOf layout.now words.old.items }
-    requires next { AreRoots layout.now (level + 1) next.old.items }
+    requires found { AreTilesOf layout.now found.old.words.items }
+    requires next { AreRoots layout.now (level + 1) found.old.next.items }
     requires on_walk { IfSome (S.told files.old)
         (λ all. All (IsWalked (scene_of all layout.now) region.now level) roots.now) }
     ensures walks { IfSome (S.told files.old)
         (λ all. IfOk result (Walks (scene_of all layout.now) region.now
-        (map (word_pair layout.now.scheme level) roots.now) words.old.items words.new.items)) }
+        (map (word_pair layout.now.scheme level) roots.now) found.old.words.items found.new.words.items)) }
     ensures roots { IfSome (S.told files.old) (λ all. IfOk result (λ end. end ≡ WalkEnd.Partial
-        → map (word_tile layout.now.scheme) next.new.items ≡ map (word_tile layout.now.scheme) next.old.items
+        → map (word_tile layout.now.scheme) found.new.next.items
+        ≡ map (word_tile layout.now.scheme) found.old.next.items
         ++ flat_map (λ w. next_roots (scene_of all layout.now) region.now level (word_tile layout.now.scheme w))
         roots.now)) }
-    ensures found { IfOk result (λ end. AreTilesOf layout.now words.new.items) }
-    ensures next { IfOk result (λ end. AreRoots layout.now (level + 1) next.new.items) }
+    ensures found { IfOk result (λ end. AreTilesOf layout.now found.new.words.items) }
+    ensures next { IfOk result (λ end. AreRoots layout.now (level + 1) found.new.next.items) }
     ensures end { IfOk result (EndsWithin layout.now) }
     ensures failed { result ≡ Err WalkStop.ReadFault → Rose (S.faults files.old) (S.faults files.new) }
     ensures sure { result ≢ Err WalkStop.ReadFault → S.faults files.new ≡ S.faults files.old }
@@ -49,7 +50,7 @@ pub(crate) fn walk_level<S: FileSource>(
     ensures same { S.told files.new ≡ S.told files.old }
 {
     for root in roots {
-        match step(alloc, files, layout, region, level, *root, words, next)? {
+        match step(alloc, files, layout, region, level, *root, found)? {
             WalkEnd::Partial => {}
             end => return Ok(end),
         }

@@ -2,6 +2,7 @@
 //! anew for each of its levels, and keeps nothing. What runs is compared with it on small tilesets.
 #![tactic(auto)]
 
+mod found;
 mod level;
 mod region;
 mod step;

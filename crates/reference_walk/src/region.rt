@@ -8,9 +8,11 @@ ghost use Rattle.walk_laws.specs.Plans.{FitsLayout, IsRegionOf};
 ghost use Rattle.tile_word.specs.Answers.{IsAnswer};
 ghost use Rattle.reference_walk.specs.Walks.{frontier_if, is_last};
 
+use crate::found::Found;
 use crate::level::walk_level;
 use scene_ports::FileSource;
 use std::alloc::Global;
+use std::mem;
 use subtree_outcome::WalkStop;
 use tile_coords::{Plan, Region, WalkEnd, Word};
 use tile_walk::first_roots;
@@ -41,9 +43,9 @@ pub fn fresh<S: FileSource>(
         ≤ more_by (length (pairs (scene_of all layout.now) plan.now.region)) (S.fetches files.old))) }
     ensures same { S.told files.new ≡ S.told files.old }
 {
-    let mut found = Vec::new(alloc);
+    let mut found = Found::new(alloc);
     let end = walk(alloc, files, layout, &plan.region, &mut found)?;
-    *words = found;
+    *words = found.words;
     Ok(end)
 }
 
@@ -53,13 +55,14 @@ fn walk<S: FileSource>(
     files: &mut S,
     layout: &Layout,
     region: &Region,
-    words: &mut Vec<Word>,
+    found: &mut Found,
 ) -> Result<WalkEnd, WalkStop>
     requires region { IsRegionOf layout.now region.now }
-    requires empty { words.old.items ≡ [] }
+    requires empty { found.old.words.items ≡ [] }
+    requires none { found.old.next.items ≡ [] }
     ensures answer { IfSome (S.told files.old)
-        (λ all. IfOk result (IsAnswer (scene_of all layout.now) region.now words.new.items)) }
-    ensures found { IfOk result (λ end. AreTilesOf layout.now words.new.items) }
+        (λ all. IfOk result (IsAnswer (scene_of all layout.now) region.now found.new.words.items)) }
+    ensures found { IfOk result (λ end. AreTilesOf layout.now found.new.words.items) }
     ensures end { IfOk result (EndsWithin layout.now) }
     ensures over { IfOk result (λ end. end ≢ WalkEnd.Partial) }
     ensures failed { result ≡ Err WalkStop.ReadFault → Rose (S.faults files.old) (S.faults files.new) }
@@ -71,13 +74,11 @@ fn walk<S: FileSource>(
 {
     let mut roots = first_roots(alloc, layout.scheme)?;
     for level in 0..region.level + 1 {
-        let mut next = Vec::new(alloc);
-        match walk_level(
-            alloc, files, layout, region, level, &roots, words, &mut next,
-        )? {
+        match walk_level(alloc, files, layout, region, level, &roots, found)? {
             WalkEnd::Partial => {}
             end => return Ok(end),
         }
+        let next = mem::replace(&mut found.next, Vec::new(alloc));
         roots = frontier(layout, level, roots, next);
     }
     Ok(WalkEnd::Complete)

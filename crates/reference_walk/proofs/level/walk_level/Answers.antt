@@ -17,8 +17,8 @@ loop-root-init g c =
     let layout = c.args.layout.now in
     let told = g.S.FileSource.told c.args.files.now in
     record {
-      walks = told_always told _ (λ all. goes_nowhere (scene_of all layout) c.args.region.now c.args.words.now.items c.requires.found.few);
-      roots_on = told_always told _ (λ all. sym (append-nil (map (word_tile layout.scheme) c.args.next.now.items)));
+      walks = told_always told _ (λ all. goes_nowhere (scene_of all layout) c.args.region.now c.args.found.now.words.items c.requires.found.few);
+      roots_on = told_always told _ (λ all. sym (append-nil (map (word_tile layout.scheme) c.args.found.now.next.items)));
       found = c.requires.found;
       next = c.requires.next;
       later = omega arith;
@@ -37,22 +37,22 @@ loop-root-preserved g c =
     c.root-item.is ∙ get_or_default_zero c.args.roots.now c.loop-root.root-index c.root-item.result (omega arith) in
     record {
       walks = both_told (g.S.FileSource.told c.args.files.now)
-          (λ all. GoesOn (scene_of all layout) region (map pair (take c.loop-root.root-index c.args.roots.now)) c.args.words.now.items c.loop-root.words.items)
-          (λ all. Walks (scene_of all layout) region (pair root ∷ []) c.loop-root.words.items c.step.new.words.items c.in_ok-end.end) _
-          (λ all on is. let P : WalkEnd → Type 0 = Walks (scene_of all layout) region (map pair (take (c.loop-root.root-index + 1) c.args.roots.now)) c.args.words.now.items c.step.new.words.items in
+          (λ all. GoesOn (scene_of all layout) region (map pair (take c.loop-root.root-index c.args.roots.now)) c.args.found.now.words.items c.loop-root.found.words.items)
+          (λ all. Walks (scene_of all layout) region (pair root ∷ []) c.loop-root.found.words.items c.step.new.found.words.items c.in_ok-end.end) _
+          (λ all on is. let P : WalkEnd → Type 0 = Walks (scene_of all layout) region (map pair (take (c.loop-root.root-index + 1) c.args.roots.now)) c.args.found.now.words.items c.step.new.found.words.items in
           subst P c.in-Partial.is
-          (one_root_more (scene_of all layout) region pair c.args.roots.now c.loop-root.root-index c.args.words.now.items c.loop-root.words.items c.step.new.words.items c.in_ok-end.end
-          (omega arith) on (subst (λ w. Walks (scene_of all layout) region (pair w ∷ []) c.loop-root.words.items c.step.new.words.items c.in_ok-end.end) at is)))
+          (one_root_more (scene_of all layout) region pair c.args.roots.now c.loop-root.root-index c.args.found.now.words.items c.loop-root.found.words.items c.step.new.found.words.items c.in_ok-end.end
+          (omega arith) on (subst (λ w. Walks (scene_of all layout) region (pair w ∷ []) c.loop-root.found.words.items c.step.new.found.words.items c.in_ok-end.end) at is)))
           c.loop-root.invariant.walks
           (told_same (g.S.FileSource.told c.loop-root.files) (g.S.FileSource.told c.args.files.now) _ c.loop-root.invariant.same c.in_ok-end.ensures.walks);
       roots_on = both_told (g.S.FileSource.told c.args.files.now)
-          (λ all. map (word_tile layout.scheme) c.loop-root.next.items ≡ map (word_tile layout.scheme) c.args.next.now.items
+          (λ all. map (word_tile layout.scheme) c.loop-root.found.next.items ≡ map (word_tile layout.scheme) c.args.found.now.next.items
           ++ flat_map (λ w. next_roots (scene_of all layout) region c.args.level (word_tile layout.scheme w)) (take c.loop-root.root-index c.args.roots.now))
-          (λ all. c.in_ok-end.end ≡ Partial → map (word_tile layout.scheme) c.step.new.next.items ≡ map (word_tile layout.scheme) c.loop-root.next.items
+          (λ all. c.in_ok-end.end ≡ Partial → map (word_tile layout.scheme) c.step.new.found.next.items ≡ map (word_tile layout.scheme) c.loop-root.found.next.items
           ++ next_roots (scene_of all layout) region c.args.level (word_tile layout.scheme root)) _
           (λ all on more. one_next_more (word_tile layout.scheme) (λ w. next_roots (scene_of all layout) region c.args.level (word_tile layout.scheme w)) c.args.roots.now
-          c.args.next.now.items c.loop-root.next.items c.step.new.next.items c.loop-root.root-index (omega arith) on
-          (subst (λ w. map (word_tile layout.scheme) c.step.new.next.items ≡ map (word_tile layout.scheme) c.loop-root.next.items
+          c.args.found.now.next.items c.loop-root.found.next.items c.step.new.found.next.items c.loop-root.root-index (omega arith) on
+          (subst (λ w. map (word_tile layout.scheme) c.step.new.found.next.items ≡ map (word_tile layout.scheme) c.loop-root.found.next.items
           ++ next_roots (scene_of all layout) region c.args.level (word_tile layout.scheme w)) at (more c.in-Partial.is))) c.loop-root.invariant.roots_on
           (told_same (g.S.FileSource.told c.loop-root.files) (g.S.FileSource.told c.args.files.now) _ c.loop-root.invariant.same c.in_ok-end.ensures.roots);
       found = c.in_ok-end.ensures.found;
@@ -72,11 +72,11 @@ returns-in_default-clause-walks g c =
     let at : root ≡ get_or c.args.roots.now c.loop-root.root-index 0 =
     c.root-item.is ∙ get_or_default_zero c.args.roots.now c.loop-root.root-index c.root-item.result (omega arith) in
     both_told (g.S.FileSource.told c.args.files.now)
-    (λ all. GoesOn (scene_of all layout) region (map pair (take c.loop-root.root-index c.args.roots.now)) c.args.words.now.items c.loop-root.words.items)
-    (λ all. Walks (scene_of all layout) region (pair root ∷ []) c.loop-root.words.items c.step.new.words.items c.in_ok-end.end) _
-    (λ all on is. ends_in_level (scene_of all layout) region pair c.args.roots.now c.loop-root.root-index c.args.words.now.items c.loop-root.words.items c.step.new.words.items
+    (λ all. GoesOn (scene_of all layout) region (map pair (take c.loop-root.root-index c.args.roots.now)) c.args.found.now.words.items c.loop-root.found.words.items)
+    (λ all. Walks (scene_of all layout) region (pair root ∷ []) c.loop-root.found.words.items c.step.new.found.words.items c.in_ok-end.end) _
+    (λ all on is. ends_in_level (scene_of all layout) region pair c.args.roots.now c.loop-root.root-index c.args.found.now.words.items c.loop-root.found.words.items c.step.new.found.words.items
     c.in_ok-end.end (omega arith) c.in_default.not-Partial on
-    (subst (λ w. Walks (scene_of all layout) region (pair w ∷ []) c.loop-root.words.items c.step.new.words.items c.in_ok-end.end) at is)) c.loop-root.invariant.walks
+    (subst (λ w. Walks (scene_of all layout) region (pair w ∷ []) c.loop-root.found.words.items c.step.new.found.words.items c.in_ok-end.end) at is)) c.loop-root.invariant.walks
     (told_same (g.S.FileSource.told c.loop-root.files) (g.S.FileSource.told c.args.files.now) _ c.loop-root.invariant.same c.in_ok-end.ensures.walks)
 
 pub returns-in_default-clause-fetched : goal.returns-in_default-clause-fetched
@@ -97,5 +97,5 @@ returns-in_default-clause-roots g c = told_always (g.S.FileSource.told c.args.fi
 pub returns-clause-roots : goal.returns-clause-roots
 returns-clause-roots g c =
     let layout = c.args.layout.now in
-    of_told (g.S.FileSource.told c.args.files.now) _ _ (λ all on goes. on ∙ ap (λ ws. map (word_tile layout.scheme) c.args.next.now.items
+    of_told (g.S.FileSource.told c.args.files.now) _ _ (λ all on goes. on ∙ ap (λ ws. map (word_tile layout.scheme) c.args.found.now.next.items
     ++ flat_map (λ w. next_roots (scene_of all layout) c.args.region.now c.args.level (word_tile layout.scheme w)) ws) (take_all _ _ (omega arith))) c.loop-root.invariant.roots_on

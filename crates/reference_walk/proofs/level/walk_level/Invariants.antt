@@ -12,12 +12,12 @@ use Rattle.reference_walk.proofs.level.walk_level.Given as goal
 abbrev pub invariant-loop-root : goal.invariant-loop-root
 invariant-loop-root g l = record {
   walks : IfSome (g.S.FileSource.told l.fn.files)
-      (λ all. GoesOn (scene_of all l.fn.layout) l.fn.region (map (word_pair l.fn.layout.scheme l.fn.level) (take l.root-index l.fn.roots)) l.fn.words.items l.words.items);
+      (λ all. GoesOn (scene_of all l.fn.layout) l.fn.region (map (word_pair l.fn.layout.scheme l.fn.level) (take l.root-index l.fn.roots)) l.fn.found.words.items l.found.words.items);
   roots_on : IfSome (g.S.FileSource.told l.fn.files)
-      (λ all. map (word_tile l.fn.layout.scheme) l.next.items ≡ map (word_tile l.fn.layout.scheme) l.fn.next.items
+      (λ all. map (word_tile l.fn.layout.scheme) l.found.next.items ≡ map (word_tile l.fn.layout.scheme) l.fn.found.next.items
       ++ flat_map (λ w. next_roots (scene_of all l.fn.layout) l.fn.region l.fn.level (word_tile l.fn.layout.scheme w)) (take l.root-index l.fn.roots));
-  found : AreTilesOf l.fn.layout l.words.items;
-  next : AreRoots l.fn.layout (l.fn.level + 1) l.next.items;
+  found : AreTilesOf l.fn.layout l.found.words.items;
+  next : AreRoots l.fn.layout (l.fn.level + 1) l.found.next.items;
   later : g.S.FileSource.faults l.fn.files ≤ g.S.FileSource.faults l.files;
   sure : g.S.FileSource.faults l.files ≡ g.S.FileSource.faults l.fn.files;
   fetched : g.S.FileSource.fetches l.files ≡ more_by l.root-index (g.S.FileSource.fetches l.fn.files);

@@ -12,7 +12,7 @@ use Rattle.tile_coords.specs.declared.walk_end.WalkEnd.{WalkEnd}
 use Rattle.tile_coords.specs.declared.walk_end.WalkEnd.TheVariants.{Partial}
 use Rattle.tile_word.specs.Roots.{AreRoots}
 use Rattle.subtree_outcome.specs.Found.{IsTileWord, AreTileWords}
-use Rattle.reference_walk.specs.Walks.{GoesOn, Walks, word_pair, next_roots, is_last, IsWalked}
+use Rattle.reference_walk.specs.Walks.{GoesOn, Walks, word_pair, next_roots, is_last, frontier_if, IsWalked}
 use Rattle.subtree_outcome.proofs.Reading.{both_told, three_told, of_told, told_same, told_always}
 use Rattle.subtree_outcome.proofs.Counting.{stays}
 use Rattle.reference_walk.proofs.Walks.{one_level_more, answer_at_level, complete_answer, read_one_level, read_at_most}
@@ -30,11 +30,12 @@ loop-level-init g c =
     let W : List ℕ → Type 0 = AreTileWords layout in
     let first : 0 ≡ root_level layout 0 = omega arith in
     record {
-      at = told_always (g.S.FileSource.told c.args.files.now) (λ all. IsAt (scene_of all layout) c.args.region.now 0 c.in_ok-roots.roots.items c.args.words.now.items)
-          (λ all. begins (scene_of all layout) c.args.region.now c.layout.inside.scheme c.in_ok-roots.roots.items c.args.words.now.items scheme some c.requires.region.is_region
+      at = told_always (g.S.FileSource.told c.args.files.now) (λ all. IsAt (scene_of all layout) c.args.region.now 0 c.in_ok-roots.roots.items c.args.found.now.words.items)
+          (λ all. begins (scene_of all layout) c.args.region.now c.layout.inside.scheme c.in_ok-roots.roots.items c.args.found.now.words.items scheme some c.requires.region.is_region
           c.in_ok-roots.ensures c.requires.empty);
       roots_are = subst P first (first_roots_are layout c.layout.inside.scheme c.in_ok-roots.roots.items scheme some c.in_ok-roots.ensures);
       found = record { are_words = subst W (sym c.requires.empty) (All-nil (IsTileWord layout.scheme layout.levels (length layout.contents))); few = omega (arith, ap (length {A = ℕ}) c.requires.empty) };
+      none = c.requires.none;
       later = omega arith;
       sure = refl;
       fetched = told_always (g.S.FileSource.told c.args.files.now) _ (λ all. omega arith);
@@ -50,7 +51,7 @@ pub walk_level-requires-clause-on_walk : goal.walk_level-requires-clause-on_walk
 walk_level-requires-clause-on_walk g c =
     let layout = c.args.layout.now in
     let region = c.args.region.now in
-    let walked = of_told (g.S.FileSource.told c.args.files.now) (λ all. IsAt (scene_of all layout) region c.loop-level.level c.loop-level.roots.items c.loop-level.words.items)
+    let walked = of_told (g.S.FileSource.told c.args.files.now) (λ all. IsAt (scene_of all layout) region c.loop-level.level c.loop-level.roots.items c.loop-level.found.words.items)
     (λ all. All (IsWalked (scene_of all layout) region c.loop-level.level) c.deref.result.now)
     (λ all at. let P : List ℕ → Type 0 = All (IsWalked (scene_of all layout) region c.loop-level.level) in subst P (sym c.deref.ensures.value) at.walked) c.loop-level.invariant.at in
     told_same (g.S.FileSource.told c.args.files.now) (g.S.FileSource.told c.loop-level.files) _ (sym c.loop-level.invariant.same) walked
@@ -63,15 +64,15 @@ returns-in_default-clause-answer g c =
     let some : 1 ≤ layout.subtree_levels = omega (arith, levels, c.layout.invariant.some_subtree_levels) in
     let same = ap (λ (r : Region). r.level) c.region.view_is in
     let low : c.loop-level.level ≤ region.level = omega (arith, c.loop-level-test.true, same) in
-    both_told (g.S.FileSource.told c.args.files.now) (λ all. IsAt (scene_of all layout) region c.loop-level.level c.loop-level.roots.items c.loop-level.words.items)
-    (λ all. Walks (scene_of all layout) region (map (word_pair layout.scheme c.loop-level.level) c.deref.result.now) c.loop-level.words.items c.walk_level.new.words.items c.in_ok-end.end) _
+    both_told (g.S.FileSource.told c.args.files.now) (λ all. IsAt (scene_of all layout) region c.loop-level.level c.loop-level.roots.items c.loop-level.found.words.items)
+    (λ all. Walks (scene_of all layout) region (map (word_pair layout.scheme c.loop-level.level) c.deref.result.now) c.loop-level.found.words.items c.walk_level.new.found.words.items c.in_ok-end.end) _
     (λ all at is. let s = scene_of all layout in
-    let P : List ℕ → Type 0 = λ ws. Walks s region (map (word_pair layout.scheme c.loop-level.level) ws) c.loop-level.words.items c.walk_level.new.words.items c.in_ok-end.end in
-    answer_at_level s region c.loop-level.level c.walk_level.new.words.items c.in_ok-end.end some low c.in_default.not-Partial c.in_ok-end.ensures.end
-    (one_level_more s region c.loop-level.level c.loop-level.roots.items c.loop-level.words.items c.walk_level.new.words.items c.in_ok-end.end at.tiles at.goes (subst P c.deref.ensures.value is)))
+    let P : List ℕ → Type 0 = λ ws. Walks s region (map (word_pair layout.scheme c.loop-level.level) ws) c.loop-level.found.words.items c.walk_level.new.found.words.items c.in_ok-end.end in
+    answer_at_level s region c.loop-level.level c.walk_level.new.found.words.items c.in_ok-end.end some low c.in_default.not-Partial c.in_ok-end.ensures.end
+    (one_level_more s region c.loop-level.level c.loop-level.roots.items c.loop-level.found.words.items c.walk_level.new.found.words.items c.in_ok-end.end at.tiles at.goes (subst P c.deref.ensures.value is)))
     c.loop-level.invariant.at
     (told_same (g.S.FileSource.told c.loop-level.files) (g.S.FileSource.told c.args.files.now)
-    (λ all. Walks (scene_of all layout) region (map (word_pair layout.scheme c.loop-level.level) c.deref.result.now) c.loop-level.words.items c.walk_level.new.words.items c.in_ok-end.end)
+    (λ all. Walks (scene_of all layout) region (map (word_pair layout.scheme c.loop-level.level) c.deref.result.now) c.loop-level.found.words.items c.walk_level.new.found.words.items c.in_ok-end.end)
     c.loop-level.invariant.same c.in_ok-end.ensures.walks)
 
 pub loop-level-preserved : goal.loop-level-preserved
@@ -80,28 +81,30 @@ loop-level-preserved g c =
     let region = c.args.region.now in
     let level = c.loop-level.level in
     let roots = c.loop-level.roots.items in
-    let words = c.loop-level.words.items in
-    let next = c.walk_level.new.next.items in
-    let after = c.walk_level.new.words.items in
+    let words = c.loop-level.found.words.items in
+    let next = c.walk_level.new.found.next.items in
+    let after = c.walk_level.new.found.words.items in
     let levels = ap (λ (l : Layout). l.subtree_levels) c.layout.view_is in
     let some : 1 ≤ layout.subtree_levels = omega (arith, levels, c.layout.invariant.some_subtree_levels) in
+    let came = c.frontier-roots.ensures ∙ ap (frontier_if (is_last layout level) roots) (ap (λ v. v.items) c.replace-next.ensures.value) in
     record {
       at = three_told (g.S.FileSource.told c.args.files.now) (λ all. IsAt (scene_of all layout) region level roots words)
           (λ all. Walks (scene_of all layout) region (map (word_pair layout.scheme level) c.deref.result.now) words after c.in_ok-end.end)
-          (λ all. c.in_ok-end.end ≡ Partial → map (word_tile layout.scheme) next ≡ map (word_tile layout.scheme) c.new-next.result.items
+          (λ all. c.in_ok-end.end ≡ Partial → map (word_tile layout.scheme) next ≡ map (word_tile layout.scheme) c.loop-level.found.next.items
           ++ flat_map (λ w. next_roots (scene_of all layout) region level (word_tile layout.scheme w)) c.deref.result.now) _
           (λ all at is found. let s = scene_of all layout in
           let P : WalkEnd → Type 0 = Walks s region (map (word_pair layout.scheme level) c.deref.result.now) words after in
           let Q : List ℕ → Type 0 = λ ws. GoesOn s region (map (word_pair layout.scheme level) ws) words after in
           let same = c.deref.ensures.value in
-          let rest = λ (ws : List ℕ). map (word_tile layout.scheme) c.new-next.result.items ++ flat_map (λ w. next_roots s region level (word_tile layout.scheme w)) ws in
-          is_at_next s region level (is_last layout level) roots next c.frontier-roots.result.items c.new-next.result.items words after some refl c.loop-level.invariant.roots_are at
-          (subst Q same (subst P c.in-Partial.is is)) c.new-next.ensures.items (found c.in-Partial.is ∙ ap rest same) c.frontier-roots.ensures)
+          let rest = λ (ws : List ℕ). map (word_tile layout.scheme) c.loop-level.found.next.items ++ flat_map (λ w. next_roots s region level (word_tile layout.scheme w)) ws in
+          is_at_next s region level (is_last layout level) roots next c.frontier-roots.result.items c.loop-level.found.next.items words after some refl c.loop-level.invariant.roots_are at
+          (subst Q same (subst P c.in-Partial.is is)) c.loop-level.invariant.none (found c.in-Partial.is ∙ ap rest same) came)
           c.loop-level.invariant.at
           (told_same (g.S.FileSource.told c.loop-level.files) (g.S.FileSource.told c.args.files.now) _ c.loop-level.invariant.same c.in_ok-end.ensures.walks)
           (told_same (g.S.FileSource.told c.loop-level.files) (g.S.FileSource.told c.args.files.now) _ c.loop-level.invariant.same c.in_ok-end.ensures.roots);
-      roots_are = roots_if_next layout level (is_last layout level) roots next c.frontier-roots.result.items some refl c.loop-level.invariant.roots_are c.in_ok-end.ensures.next c.frontier-roots.ensures;
+      roots_are = roots_if_next layout level (is_last layout level) roots next c.frontier-roots.result.items some refl c.loop-level.invariant.roots_are c.in_ok-end.ensures.next came;
       found = c.in_ok-end.ensures.found;
+      none = ap (λ v. v.items) c.replace-next.ensures.after ∙ c.new.ensures.items;
       later = omega (arith, c.loop-level.invariant.later, c.walk_level.ensures.later);
       sure = stays c.walk_level.result _ _ _ _ _ c.in_ok-end.was c.walk_level.ensures.sure c.loop-level.invariant.sure;
       fetched = both_told (g.S.FileSource.told c.args.files.now) (λ all. IsAt (scene_of all layout) region level roots words)
@@ -117,7 +120,7 @@ returns-in_default-clause-fetched g c =
     let region = c.args.region.now in
     let level = c.loop-level.level in
     let same = ap (λ (r : Region). r.level) c.region.view_is in
-    both_told (g.S.FileSource.told c.args.files.now) (λ all. IsAt (scene_of all layout) region level c.loop-level.roots.items c.loop-level.words.items)
+    both_told (g.S.FileSource.told c.args.files.now) (λ all. IsAt (scene_of all layout) region level c.loop-level.roots.items c.loop-level.found.words.items)
     (λ all. g.S.FileSource.fetches c.loop-level.files ≤ more_by (length (pairs_above (scene_of all layout) region level)) (g.S.FileSource.fetches c.args.files.now)) _
     (λ all at so. let s = scene_of all layout in
     read_at_most s region (level + 1) _ _ (omega (arith, c.loop-level-test.true, same))
@@ -142,7 +145,7 @@ returns-clause-answer g c =
     let some : 1 ≤ layout.subtree_levels = omega (arith, levels, c.layout.invariant.some_subtree_levels) in
     let same = ap (λ (r : Region). r.level) c.region.view_is in
     let end : c.loop-level.level ≡ region.level + 1 = omega (arith, c.loop-level-test.false, c.loop-level.auto.level-end, same) in
-    of_told (g.S.FileSource.told c.args.files.now) (λ all. IsAt (scene_of all layout) region c.loop-level.level c.loop-level.roots.items c.loop-level.words.items) _
+    of_told (g.S.FileSource.told c.args.files.now) (λ all. IsAt (scene_of all layout) region c.loop-level.level c.loop-level.roots.items c.loop-level.found.words.items) _
     (λ all at. let s = scene_of all layout in
-    let P : ℕ → Type 0 = λ l. GoesOn s region (pairs_above s region l) [] c.loop-level.words.items in
-    complete_answer s region c.loop-level.words.items some (subst P end at.goes)) c.loop-level.invariant.at
+    let P : ℕ → Type 0 = λ l. GoesOn s region (pairs_above s region l) [] c.loop-level.found.words.items in
+    complete_answer s region c.loop-level.found.words.items some (subst P end at.goes)) c.loop-level.invariant.at

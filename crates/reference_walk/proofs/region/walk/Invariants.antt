@@ -1,4 +1,4 @@
-use Rattle.std.proofs.Common.{◌≡◌, ◌≤◌, length}
+use Rattle.std.proofs.Common.{◌≡◌, ◌≤◌, [], length}
 use Rattle.std.specs.Prelude.{IfSome}
 use Rattle.implicit_tiling.specs.Steps.{root_level}
 use Rattle.implicit_tileset.specs.Scene.{scene_of}
@@ -11,9 +11,10 @@ use Rattle.reference_walk.proofs.region.walk.Given as goal
 
 abbrev pub invariant-loop-level : goal.invariant-loop-level
 invariant-loop-level g l = record {
-  at : IfSome (g.S.FileSource.told l.fn.files) (λ all. IsAt (scene_of all l.fn.layout) l.fn.region l.level l.roots.items l.words.items);
+  at : IfSome (g.S.FileSource.told l.fn.files) (λ all. IsAt (scene_of all l.fn.layout) l.fn.region l.level l.roots.items l.found.words.items);
   roots_are : AreRoots l.fn.layout (root_level l.fn.layout l.level) l.roots.items;
-  found : AreTilesOf l.fn.layout l.words.items;
+  found : AreTilesOf l.fn.layout l.found.words.items;
+  none : l.found.next.items ≡ [];
   later : g.S.FileSource.faults l.fn.files ≤ g.S.FileSource.faults l.files;
   sure : g.S.FileSource.faults l.files ≡ g.S.FileSource.faults l.fn.files;
   fetched : IfSome (g.S.FileSource.told l.fn.files)

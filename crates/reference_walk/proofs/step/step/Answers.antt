@@ -22,7 +22,7 @@ returns-in-Bad-clause-walks g c =
     let layout = c.args.layout.now in
     both_told _ (λ all. IsWalked (scene_of all layout) c.args.region.now c.args.level c.args.root)
     (λ all. (scene_of all layout).outcome c.root_tile-tile.result ≡ outcome_seen c.in_ok-number.field-0) _
-    (λ all walked is. walks_fault (scene_of all layout) c.args.region.now c.args.level c.args.root c.in-Bad.number c.root_tile-tile.result c.args.words.now.items
+    (λ all walked is. walks_fault (scene_of all layout) c.args.region.now c.args.level c.args.root c.in-Bad.number c.root_tile-tile.result c.args.found.now.words.items
     c.root_tile-tile.ensures.tile (c.root_tile-tile.ensures.level ∙ c.requires.root.at_level) walked c.requires.found.few (is ∙ ap outcome_seen c.in-Bad.is))
     c.requires.on_walk c.in_ok-number.ensures.told
 
