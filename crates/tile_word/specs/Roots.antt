@@ -1,7 +1,6 @@
 -- Subtree roots and tiles, as words (this project's own).
 use Rattle.std.specs.Prelude.{ℕ, ◌≡◌, ◌%◌, ◌<◌, List}
 use Rattle.std.specs.List.{All}
-use Rattle.implicit_tiling.specs.declared.Scheme.{Scheme}
 use Rattle.implicit_tiling.specs.Scene.{Layout}
 use Rattle.implicit_tiling.specs.Code.{IsWord, word_level, word_mask}
 
@@ -15,7 +14,3 @@ pub record IsRootWord (layout : Layout) (level w : ℕ) : Type 0 where
 
 abbrev pub AreRoots : Layout → ℕ → List ℕ → Type 0
 AreRoots layout level roots = All (IsRootWord layout level) roots
-
--- each number is the word of a tile
-abbrev pub AreWords : Scheme → List ℕ → Type 0
-AreWords scheme words = All (IsWord scheme) words
