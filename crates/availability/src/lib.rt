@@ -8,6 +8,3 @@ mod subtree;
 
 pub use nodes::nodes_above;
 pub use subtree::{RuleFault, Subtree};
-
-#[cfg(test)]
-mod tests;

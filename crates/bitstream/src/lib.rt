@@ -11,6 +11,3 @@ mod words;
 
 pub use bits::Bits;
 pub use words::low_bits;
-
-#[cfg(test)]
-mod tests;

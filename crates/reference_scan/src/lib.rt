@@ -9,6 +9,3 @@ mod nodes;
 
 pub use children::child_roots_plain;
 pub use level::level_tiles_plain;
-
-#[cfg(test)]
-mod tests;

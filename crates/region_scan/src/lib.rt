@@ -11,6 +11,3 @@ mod search;
 
 pub use children::child_roots;
 pub use level::level_tiles;
-
-#[cfg(test)]
-mod tests;

@@ -13,6 +13,3 @@ pub use fault::JsonFault;
 pub use part::{Availability, BufferPart, ContentPart, ViewPart};
 pub use reader::read;
 pub use record::SubtreeRecord;
-
-#[cfg(test)]
-mod tests;

@@ -14,6 +14,3 @@ pub use region::{Region, RegionFault};
 pub use tile::Tile;
 pub use walk_end::{CheckEnd, FoundFault, WalkEnd};
 pub use word::Word;
-
-#[cfg(test)]
-mod tests;

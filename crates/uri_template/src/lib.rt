@@ -8,6 +8,3 @@ mod length;
 mod template;
 
 pub use template::{MOST_BYTES, Template, TemplateFault};
-
-#[cfg(test)]
-mod tests;

@@ -1,6 +1,6 @@
 use Rattle.std.proofs.Common.{◌∙◌, length, ap}
 use Rattle.bitstream.proofs.Lists.{length-bits_of_bytes}
-use Rattle.reference_scan.proofs.tests.mixed_bits.Goals as goal
+use Rattle.reading_trials.proofs.plain_scans.mixed_bits.Goals as goal
 
 pub returns-in-Some : goal.returns-in-Some
 returns-in-Some c = ap length c.in-Some.ensures.bits ∙ length-bits_of_bytes _ c.args.count

@@ -6,7 +6,7 @@ use Rattle.std.proofs.lemmas.List.Elements.{All-cons, All-nil}
 use Rattle.implicit_tiling.specs.declared.Scheme.TheVariants.{Quad}
 use Rattle.implicit_tiling.specs.Tile.{Tile, IsTile}
 use Rattle.tiling_laws.proofs.TileAt.{tile_at_is_tile}
-use Rattle.availability.proofs.tests.subtree.Goals as goal
+use Rattle.reading_trials.proofs.rules.subtree.Goals as goal
 
 pub invariant_of-result : goal.invariant_of-result
 invariant_of-result c =

@@ -2,9 +2,9 @@
 // member that stands twice the last counts, so each row states what it has besides a good file.
 ghost use Rattle.std.specs.Prelude.{◌≡◌};
 
-use crate::{DecodeFault, decode};
 use std::alloc::{AllocError, Global};
 use std::test::Fail;
+use subtree_file::{DecodeFault, decode};
 use tile_coords::Tile;
 use tileset_json::Layout;
 

@@ -1,6 +1,6 @@
 // What no clause says: each call succeeds on good arguments, and equality and hash are there.
-use crate::{Plan, Region, RegionFault, Scheme, Tile, Word};
 use std::test::Fail;
+use tile_coords::{Plan, Region, RegionFault, Scheme, Tile, Word};
 
 #[test]
 fn tiles_and_regions(rt: HostRuntime) -> Result<(), Fail> {

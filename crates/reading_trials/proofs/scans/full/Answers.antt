@@ -3,7 +3,7 @@ use Rattle.std.proofs.Common.{◌∙◌, ap, sym, subst, length, arith, true}
 use Rattle.std.proofs.lemmas.List.{length-replicate}
 use Rattle.implicit_tiling.specs.Tile.{Tile, IsTile}
 use Rattle.tiling_laws.proofs.TileAt.{tile_at_is_tile}
-use Rattle.region_scan.proofs.tests.full.Goals as goal
+use Rattle.reading_trials.proofs.scans.full.Goals as goal
 
 pub invariant_of-result : goal.invariant_of-result
 invariant_of-result c = record {

@@ -1,6 +1,6 @@
 // What no clause says: each call succeeds on good arguments. The bits, the counts and the places are also compared
 // with a plain loop over the bits.
-use crate::Bits;
+use bitstream::Bits;
 use std::test::Fail;
 
 #[test]

@@ -5,7 +5,7 @@ use Rattle.std.proofs.lemmas.List.Elements.{All-nil, All-cons}
 use Rattle.implicit_tiling.specs.Tile.{Tile, IsTile}
 use Rattle.implicit_tiling.specs.Subtree.{node_count}
 use Rattle.tiling_laws.proofs.TileAt.{tile_at_is_tile, tile_at_level}
-use Rattle.reference_scan.proofs.tests.mixed_subtree.Goals as goal
+use Rattle.reading_trials.proofs.plain_scans.mixed_subtree.Goals as goal
 
 pub invariant_of-result : goal.invariant_of-result
 invariant_of-result c =

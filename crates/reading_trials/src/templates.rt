@@ -1,6 +1,6 @@
 // What no clause says: with ample memory a text is filled, behind what was there.
-use crate::{Template, TemplateFault};
 use std::test::Fail;
+use uri_template::{Template, TemplateFault};
 
 #[test]
 fn templates_of_the_standard(rt: HostRuntime) -> Result<(), Fail> {

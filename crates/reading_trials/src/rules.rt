@@ -1,7 +1,7 @@
 // The rules broken at the first, a middle and the last node of a level.
 ghost use Rattle.std.specs.Prelude.{◌≡◌, ◌≤◌, IfOk, length};
 
-use crate::{RuleFault, Subtree};
+use availability::{RuleFault, Subtree};
 use bitstream::Bits;
 use std::alloc::{AllocError, Global};
 use std::test::Fail;

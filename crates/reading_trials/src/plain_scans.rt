@@ -3,9 +3,9 @@ ghost use Rattle.std.specs.Prelude.{◌≡◌, ◌^◌, ◌<◌, ◌≤◌, IfOk
 ghost use Rattle.implicit_tiling.specs.Limits.{most_levels, most_subtree_levels};
 ghost use Rattle.implicit_tiling.specs.Tile.{branching};
 
-use crate::{child_roots_plain, level_tiles_plain};
 use availability::{Subtree, nodes_above};
 use bitstream::Bits;
+use reference_scan::{child_roots_plain, level_tiles_plain};
 use region_scan::{child_roots, level_tiles};
 use std::alloc::{AllocError, Global};
 use std::test::Fail;

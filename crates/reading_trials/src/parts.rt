@@ -1,6 +1,6 @@
 // What no clause says: reading succeeds where there is memory, and each text has the answer of the standard's reader.
-use crate::{Availability, ContentPart, JsonFault, ViewPart, read};
 use std::test::Fail;
+use subtree_json::{Availability, ContentPart, JsonFault, ViewPart, read};
 
 const GOOD: &[u8] =
     b"{\"buffers\":[{\"byteLength\":10,\"name\":\"a\"},{\"byteLength\":7,\"uri\":\"b\"}],\"bufferViews\":[{\"buffer\":1,\"byteOffset\":8,\"byteLength\":2}],\"tileAvailability\":{\"bitstream\":0,\"availableCount\":5},\"contentAvailability\":[{\"constant\":1},{\"constant\":2},7,{\"bitstream\":3}],\"childSubtreeAvailability\":{\"constant\":0,\"availableCount\":null}}   ";

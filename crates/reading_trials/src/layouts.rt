@@ -1,9 +1,9 @@
 // What no clause says: with ample memory each row of the table is met. A member that stands twice counts as
 // `serde_json` keeps it, the last one, so each row states what it has besides this tileset.
-use crate::{Layout, LayoutFault, MOST_CONTENTS, TilesetFault};
 use std::alloc::{AllocError, Global};
 use std::test::Fail;
 use tile_coords::Scheme;
+use tileset_json::{Layout, LayoutFault, MOST_CONTENTS, TilesetFault};
 use uri_template::Template;
 
 const HEAD: &str =

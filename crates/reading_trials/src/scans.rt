@@ -2,9 +2,9 @@
 ghost use Rattle.std.specs.Prelude.{◌≡◌, ◌<◌, ◌≤◌, IfOk, length};
 ghost use Rattle.implicit_tiling.specs.Limits.{most_levels, most_subtree_levels};
 
-use crate::{child_roots, level_tiles};
 use availability::{Subtree, nodes_above};
 use bitstream::Bits;
+use region_scan::{child_roots, level_tiles};
 use std::alloc::{AllocError, Global};
 use std::test::Fail;
 use tile_coords::{Region, Scheme, Tile, Word};
