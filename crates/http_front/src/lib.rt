@@ -11,6 +11,3 @@ pub use buffer::HeadBuffer;
 pub use decided::{Decided, decide};
 pub use given::give_reply;
 pub use reading::Reading;
-
-#[cfg(test)]
-mod tests;

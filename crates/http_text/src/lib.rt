@@ -15,6 +15,3 @@ pub use heads::{HeadAnswer, HeadParts, MOST_HEAD_BYTES, MOST_HEADER_LINES, head}
 pub use replies::reply_head;
 pub use routes::Route;
 pub use targets::route;
-
-#[cfg(test)]
-mod tests;

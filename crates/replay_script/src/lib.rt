@@ -12,6 +12,3 @@ pub use event::Event;
 pub use reading::{MOST_PAGE, next_event, read_event};
 pub use reply::Reply;
 pub use reply_text::write_reply;
-
-#[cfg(test)]
-mod tests;

@@ -19,6 +19,3 @@ pub use length::answer_length;
 pub use line::{Line, Refusal, cut, is_coordinates, is_number, line_of, parse_line, read_number};
 pub use made_text::{write_made, write_survey};
 pub use text::{push_word_line, write_answer, write_refusal};
-
-#[cfg(test)]
-mod tests;

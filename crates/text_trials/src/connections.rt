@@ -1,7 +1,7 @@
 // What no clause says: that memory suffices, and that requests are read alike in whatever pieces their bytes come.
 ghost use Rattle.std.specs.Prelude.{◌≤◌};
 
-use crate::{Decided, HeadBuffer, Reading, decide, give_reply};
+use http_front::{Decided, HeadBuffer, Reading, decide, give_reply};
 use http_text::{HeadAnswer, MOST_HEAD_BYTES, MOST_HEADER_LINES, Route, head};
 use scene_ports::{GiveFault, MemoryLink};
 use std::alloc::{AllocError, Global};

@@ -3,7 +3,7 @@ ghost use Rattle.std.specs.Prelude.{IsTrue};
 ghost use Rattle.std.specs.List.{All};
 ghost use Rattle.implicit_tiling.specs.Code.{IsWord};
 
-use crate::{Event, MOST_PAGE, Reply, next_event, read_event, write_reply};
+use replay_script::{Event, MOST_PAGE, Reply, next_event, read_event, write_reply};
 use scene_ports::{GiveFault, MemoryLink, give_rest};
 use std::alloc::{AllocError, Global};
 use std::test::Fail;

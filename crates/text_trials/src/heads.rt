@@ -1,6 +1,6 @@
 // What no clause says: which of the answers that the clauses leave open `httparse` gives, and that calls succeed with
 // ample memory.
-use crate::{HeadAnswer, MOST_HEAD_BYTES, MOST_HEADER_LINES, Route, head, reply_head, route};
+use http_text::{HeadAnswer, MOST_HEAD_BYTES, MOST_HEADER_LINES, Route, head, reply_head, route};
 use std::alloc::{AllocError, Global};
 use std::test::Fail;
 

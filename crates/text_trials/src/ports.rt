@@ -1,6 +1,6 @@
 // What no clause says: that calls succeed with ample memory, which calls `failing` names, and what the adapters of the
 // real world do.
-use crate::{
+use scene_ports::{
     FULL, Fetch, FileKeeper, FileSource, Folder, Give, GiveFault, Inlet, MOST_FILE_BYTES,
     MemoryFiles, MemoryKeeper, MemoryLink, Outlet, Put, ReadInlet, SureFiles, SureKeeper, Take,
     WriteOutlet, give_all, give_rest, give_when_full,

@@ -4,7 +4,7 @@ ghost use Rattle.std.specs.List.{All};
 ghost use Rattle.implicit_tiling.specs.Code.{IsWord};
 ghost use Rattle.tile_coords.specs.Ends.{EndsAtRoot};
 
-use crate::{
+use request_text::{
     answer_length, is_coordinates, is_number, parse_line, write_answer, write_check, write_made,
     write_refusal, write_survey,
 };
