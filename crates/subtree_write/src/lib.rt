@@ -8,6 +8,3 @@ mod streams;
 mod values;
 
 pub use file::encode;
-
-#[cfg(test)]
-mod tests;

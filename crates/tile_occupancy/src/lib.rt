@@ -10,6 +10,3 @@ mod search;
 
 pub use generator::generate;
 pub use occupancy::{Occupancy, OccupancyFault};
-
-#[cfg(test)]
-mod tests;

@@ -14,6 +14,3 @@ pub use found::Survey;
 pub use making::make;
 pub use recipe::Recipe;
 pub use surveying::survey;
-
-#[cfg(test)]
-mod tests;

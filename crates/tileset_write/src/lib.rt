@@ -5,6 +5,3 @@ pub mod layout_laws;
 mod tileset_text;
 
 pub use tileset_text::layout_text;
-
-#[cfg(test)]
-mod tests;

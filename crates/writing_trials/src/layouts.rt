@@ -1,8 +1,8 @@
 // The text of a worked layout.
-use crate::layout_text;
 use std::test::Fail;
 use tile_coords::Scheme;
 use tileset_json::Layout;
+use tileset_write::layout_text;
 use uri_template::Template;
 
 const TILESET: &str =

@@ -1,8 +1,8 @@
 // Worked lists of words, and generated ones.
-use crate::{Occupancy, OccupancyFault, generate};
 use std::alloc::{AllocError, Global};
 use std::test::Fail;
 use tile_coords::{Scheme, Tile, Word};
+use tile_occupancy::{Occupancy, OccupancyFault, generate};
 use tile_word::{word_at, word_of};
 
 // The words of tiles of these levels, indices and contents.

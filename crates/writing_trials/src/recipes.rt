@@ -1,9 +1,9 @@
 // What no clause says: with ample memory the files are made, under names of the standard's form, and surveyed.
-use crate::{Recipe, Survey, make, survey};
 use scene_ports::MemoryKeeper;
 use std::test::Fail;
 use tile_builder::{BuildStop, Built};
 use tile_coords::Scheme;
+use tileset_make::{Recipe, Survey, make, survey};
 
 const WORKED: Recipe = Recipe {
     scheme: Scheme::Quad,

@@ -4,7 +4,7 @@ use Rattle.std.specs.List.{All}
 use Rattle.std.proofs.lemmas.List.Elements.{All-cons, All-nil}
 use Rattle.implicit_tiling.specs.declared.Scheme.TheVariants.{Quad}
 use Rattle.implicit_tiling.specs.Tile.{Tile, IsTile}
-use Rattle.subtree_write.proofs.tests.subtree.Goals as goal
+use Rattle.writing_trials.proofs.subtrees.subtree.Goals as goal
 
 pub invariant_of-result : goal.invariant_of-result
 invariant_of-result c =

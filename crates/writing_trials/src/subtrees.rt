@@ -1,11 +1,11 @@
 // What no clause says: each call succeeds, and the worked files have the sizes that they were worked out to have.
 ghost use Rattle.std.specs.Prelude.{◌≡◌, IfOk, length};
 
-use crate::encode;
 use availability::Subtree;
 use bitstream::Bits;
 use std::alloc::{AllocError, Global};
 use std::test::Fail;
+use subtree_write::encode;
 use tile_coords::{Scheme, Tile};
 
 fn bits(alloc: Global, bytes: [u8; 2], count: u64) -> Result<Bits, AllocError>
