@@ -8,8 +8,3 @@ mod region;
 mod step;
 
 pub use region::fresh;
-
-#[cfg(test)]
-mod tests;
-#[cfg(test)]
-mod worked_walks;

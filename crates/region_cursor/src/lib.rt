@@ -7,6 +7,3 @@ mod cursor;
 pub mod cursor_laws;
 
 pub use cursor::CursorState;
-
-#[cfg(test)]
-mod tests;

@@ -5,6 +5,3 @@
 mod shown_walk;
 
 pub use shown_walk::ShownWalk;
-
-#[cfg(test)]
-mod tests;

@@ -9,6 +9,3 @@ mod scene;
 pub use held::{HoldStop, hold};
 pub use rule::{Outcomes, SceneTag};
 pub use scene::start;
-
-#[cfg(test)]
-mod tests;

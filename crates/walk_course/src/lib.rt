@@ -13,6 +13,3 @@ pub use course::PlanWalk;
 pub use paused::Paused;
 pub use publish::{Advanced, advance, begin, publish_next};
 pub use tag::WalkTag;
-
-#[cfg(test)]
-mod tests;

@@ -5,7 +5,7 @@ ghost use Rattle.shared_pool.specs.Fits.{IsIdle};
 ghost use Rattle.tile_word.specs.Roots.{IsRootWord};
 ghost use Rattle.scene_frames.specs.Held.{IsOfScene};
 
-use crate::{HoldStop, Outcomes, hold, start};
+use scene_frames::{HoldStop, Outcomes, hold, start};
 use scene_ports::{Fetch, FileSource};
 use shared_pool::PoolPass;
 use std::alloc::Global;

@@ -5,9 +5,9 @@ ghost use Rattle.walk_laws.specs.Plans.{FitsLayout};
 ghost use Rattle.implicit_tiling.specs.Code.{word_tile};
 ghost use Rattle.subtree_outcome.specs.Outcomes.{IsFoundAt, IsOutcomeAt};
 
-use crate::CursorState;
 use availability::{Subtree, nodes_above};
 use bitstream::Bits;
+use region_cursor::CursorState;
 use std::alloc::{AllocError, Global};
 use std::test::Fail;
 use subtree_outcome::Outcome;

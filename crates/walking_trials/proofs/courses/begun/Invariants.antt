@@ -1,5 +1,5 @@
 use Rattle.std.specs.Prelude.{None}
-use Rattle.walk_course.proofs.tests.begun.Given as goal
+use Rattle.walking_trials.proofs.courses.begun.Given as goal
 
 abbrev pub ghosts-begin : goal.ghosts-begin
 ghosts-begin a = record { told = record { told = None; layout = a.layout.now; region = a.plan.region } }

@@ -3,8 +3,8 @@
 ghost use Rattle.std.specs.Prelude.{◌≡◌, ◌≤◌, IfOk, IfSome};
 ghost use Rattle.walk_laws.specs.Plans.{FitsLayout};
 
-use crate::fresh;
 use framed_walk::framed;
+use reference_walk::fresh;
 use scene_ports::{Fetch, FileSource};
 use std::alloc::{AllocError, Global};
 use std::test::Fail;

@@ -5,7 +5,6 @@ ghost use Rattle.implicit_tiling.specs.Tile.{IsTile};
 ghost use Rattle.subtree_outcome.specs.Outcomes.{IsFoundAt, IsOutcomeAt};
 ghost use Rattle.walk_laws.specs.Plans.{FitsLayout};
 
-use crate::{Advanced, PlanWalk, advance, begin};
 use availability::{Subtree, nodes_above};
 use bitstream::Bits;
 use published_prefix::{Page, Prefix, PrefixSeat};
@@ -17,6 +16,7 @@ use tile_coords::{Plan, Region, Scheme, Tile, WalkEnd, Word};
 use tile_word::{nodes_at, tile_of, word_at};
 use tileset_json::Layout;
 use uri_template::Template;
+use walk_course::{Advanced, PlanWalk, advance, begin};
 
 // A subtree of ones with no content; None where its bits break a rule, which they never do.
 fn full(alloc: Global, layout: &Layout, root: Tile) -> Option<Subtree>

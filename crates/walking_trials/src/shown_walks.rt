@@ -2,7 +2,7 @@
 ghost use Rattle.std.specs.Prelude.{◌≡◌, ◌≤◌, IfOk};
 ghost use Rattle.walk_laws.specs.Plans.{FitsLayout};
 
-use crate::ShownWalk;
+use replay_core::ShownWalk;
 use std::alloc::{AllocError, Global};
 use std::test::Fail;
 use subtree_outcome::Outcome;

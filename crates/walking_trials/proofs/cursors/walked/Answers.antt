@@ -1,6 +1,6 @@
 use Rattle.std.proofs.Common.{sym}
 use Rattle.region_cursor.proofs.Callers.{walk_stays, outcome_fits}
-use Rattle.region_cursor.proofs.tests.walked.Goals as goal
+use Rattle.walking_trials.proofs.cursors.walked.Goals as goal
 
 pub step-requires-clause-fits : goal.step-requires-clause-fits
 step-requires-clause-fits c =

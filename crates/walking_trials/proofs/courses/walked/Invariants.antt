@@ -1,5 +1,5 @@
 use Rattle.std.proofs.Common.{◌≡◌, false}
-use Rattle.walk_course.proofs.tests.walked.Given as goal
+use Rattle.walking_trials.proofs.courses.walked.Given as goal
 
 abbrev pub invariant-loop : goal.invariant-loop
 invariant-loop l = record {
