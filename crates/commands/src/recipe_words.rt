@@ -49,6 +49,3 @@ fn read_scheme(word: &str) -> Option<Scheme>
         _ => None,
     }
 }
-
-#[cfg(test)]
-mod tests;

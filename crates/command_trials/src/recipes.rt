@@ -1,5 +1,5 @@
 // Words of `make` and `survey`: their forms, their ranges and what is dropped.
-use crate::{Asked, WordFault, words_of};
+use commands::{Asked, WordFault, words_of};
 use std::alloc::{AllocError, Global};
 use std::test::Fail;
 use tile_coords::Scheme;
