@@ -4,7 +4,7 @@ use Rattle.std.specs.Prelude.{ℕ, ◌≡◌, ◌+◌, ◌⊎◌, true, false, L
 use Rattle.std.specs.Io.KnownBytes.{Appends, Consumes}
 use Rattle.http_text.specs.declared.routes.Route.{Route}
 use Rattle.http_front.specs.Reading.{WaitsForMore}
-use Rattle.http_front.specs.Requests.{HasRequests}
+use Rattle.http_front.specs.Requests.{Request, Begins, HasRequests}
 use Rattle.http_front.specs.Table.{Answered, no_memory, Reply, Decision, replies, asks, decision, answer_reply}
 use Rattle.http_front.specs.Table.{Exchange, closes_after, reply_bytes}
 
@@ -55,3 +55,27 @@ IsClosed may before after left left_now given given_now count =
     (taken : List ℕ) × (rest : List ℕ) × (exchanges : List Exchange) × Consumes left left_now taken
     × IsTalk may before after taken rest exchanges × HasEnded left taken rest exchanges
     × Appends given given_now (talk_bytes 1 exchanges) × (count ≡ length exchanges)
+
+-- no reply to the request has begun: the viewers weren't asked, or they were and had no memory
+abbrev pub IsUnanswered : {V : Type 0} → Answering V → V → V → Decision → Type 0
+IsUnanswered may before after (replies decided) = after ≡ before
+IsUnanswered may before after (asks route line) = (after ≡ before) ⊎ may before after route line no_memory
+
+-- what was given behind the replies that were given whole, where the n-th is none of them: nothing, with no request
+-- for it or one that is unanswered; or a front of it
+abbrev pub IsBroken : {V : Type 0} → Answering V → V → V → List ℕ → ℕ → List ℕ → Type 0
+IsBroken may before after rest n sent =
+    ((sent ≡ []) × (after ≡ before))
+    ⊎ ((sent ≡ []) × (request : Request) × (behind : List ℕ) × Begins rest request behind
+    × IsUnanswered may before after (decision request))
+    ⊎ ((e : Exchange) × (behind : List ℕ) × (unsent : List ℕ) × Begins rest e.request behind
+    × IsReplied may before after (decision e.request) e.reply × (reply_bytes n e ≡ sent ++ unsent))
+
+-- cut short: so many replies were given whole, each of which left the connection open
+abbrev pub IsCutShort : {V : Type 0} → Answering V → V → V → Option (List ℕ) → Option (List ℕ) → Option (List ℕ)
+    → Option (List ℕ) → ℕ → Type 0
+IsCutShort {V} may before after left left_now given given_now count =
+    (taken : List ℕ) × (rest : List ℕ) × (exchanges : List Exchange) × (mid : V) × (sent : List ℕ)
+    × Consumes left left_now taken × IsTalk may before mid taken rest exchanges × StayOpen 1 exchanges
+    × (count ≡ length exchanges) × Appends given given_now (talk_bytes 1 exchanges ++ sent)
+    × IsBroken may mid after rest (count + 1) sent

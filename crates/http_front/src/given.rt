@@ -1,5 +1,5 @@
 // Replies that are given in one piece.
-ghost use Rattle.std.specs.Prelude.{◌≡◌, ◌≢◌, ◌≤◌, ◌<◌, ◌++◌, ◌^◌, [], OnOk, if◌then◌else◌, length};
+ghost use Rattle.std.specs.Prelude.{◌≡◌, ◌≢◌, ◌≤◌, ◌<◌, ◌++◌, ◌^◌, [], OnOk, if◌then◌else◌, length, string_bytes};
 ghost use Rattle.std.specs.Io.KnownBytes.{Appends};
 ghost use Rattle.scene_ports.specs.Counts.{Rose};
 ghost use Rattle.scene_ports.specs.Output.{GivesFront};
@@ -15,10 +15,10 @@ use std::alloc::AllocError;
 /// what it held before is gone. After an `Err` some front of the reply was given.
 pub fn give_reply<O: Outlet>(
     status: u16,
-    body: &[u8],
+    body: &str,
     close: bool,
     quiet: bool,
-    piece: &mut Vec<u8>,
+    piece: &mut String,
     out: &mut O,
 ) -> Result<(), GiveFault>
     requires status { IsReplyStatus status }
@@ -31,24 +31,24 @@ pub fn give_reply<O: Outlet>(
     ensures aside { O.inlet_aside out.new ≡ O.inlet_aside out.old }
 {
     put_together(status, body, close, quiet, piece)?;
-    give_all(out, piece)
+    give_all(out, piece.as_bytes())
 }
 
 // A reply, in place of what the piece held.
 fn put_together(
     status: u16,
-    body: &[u8],
+    body: &str,
     close: bool,
     quiet: bool,
-    piece: &mut Vec<u8>,
+    piece: &mut String,
 ) -> Result<(), AllocError>
     requires status { IsReplyStatus status }
-    ensures { OnOk result (piece.new.items ≡ whole_reply status body.now close quiet) }
+    ensures { OnOk result (string_bytes piece.new ≡ whole_reply status body.now close quiet) }
 {
     piece.clear();
     reply_head(status, body.len() as u64, close, piece)?;
     if quiet {
         return Ok(());
     }
-    piece.extend_from_slice(body)
+    piece.push_str(body)
 }

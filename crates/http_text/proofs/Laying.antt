@@ -4,8 +4,11 @@ use Rattle.std.specs.Prelude.{unwrap_or, Result, OnOk, OnErr}
 use Rattle.std.specs.List.{concat, flat_map}
 use Rattle.std.specs.Fmt.{decimal}
 use Rattle.std.proofs.lemmas.Grind.{flat_map-append}
-use Rattle.std.proofs.lemmas.List.{take_more, take-append-drop, map-append}
+use Rattle.std.proofs.lemmas.List.{take_more, take_at, take-append-drop, map-append}
 use Rattle.std.proofs.lemmas.List.Folds.{concat-append}
+use Rattle.std.specs.Str.{IsUtf8, IsCharBoundary}
+use Rattle.std.specs.String.Boundary.{IsSplitPoint}
+use Rattle.std.proofs.lemmas.Str.{IsCharBoundary-from_take}
 use denote.Ref.{Bor}
 use Rattle.http.specs.StatusCode.{reason_phrase}
 use Rattle.http_text.specs.Inner.{allow_part, connection_part, unknown}
@@ -90,3 +93,11 @@ on_err r room start one two same h = subst (λ w. OnErr r (room < start + length
 
 pub on_ok : {T E : Type 0} (r : Result T E) (now before one two : List ℕ) → one ≡ two → OnOk r (now ≡ before ++ one) → OnOk r (now ≡ before ++ two)
 on_ok r now before one two same h = subst (λ w. OnOk r (now ≡ before ++ w)) same h
+
+-- a text can be cut where the text that it begins with ends
+pub ends_a_text : (now before more : List ℕ) (n : ℕ) → n ≡ length before → now ≡ before ++ more → IsUtf8 now → IsUtf8 before → IsSplitPoint now n
+ends_a_text now before more n long parts whole front =
+    let within : n ≤ length now = omega (arith, long, ap (λ w. length w) parts, length-append before more) in
+    let cut : take n now ≡ before = ap (take n) parts ∙ take_at before more n (sym long) in
+    let boundary : IsCharBoundary now n = IsCharBoundary-from_take now n whole within (subst IsUtf8 (sym cut) front) in
+    (boundary.0, λ _. boundary.1)

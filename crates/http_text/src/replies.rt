@@ -1,6 +1,6 @@
 // Heads of replies.
 ghost use Rattle.std.specs.Prelude.{◌≡◌, ◌<◌, ◌+◌, ◌++◌, OnOk, OnErr, map, length as length_of, unwrap_or};
-ghost use Rattle.std.specs.Prelude.{vec_len, vec_capacity};
+ghost use Rattle.std.specs.Prelude.{string_bytes, string_len, string_capacity};
 ghost use Rattle.std.specs.List.{concat};
 ghost use Rattle.http.specs.StatusCode.{reason_phrase};
 ghost use Rattle.http_text.specs.Inner.{allow_part, connection_part, unknown};
@@ -17,22 +17,23 @@ pub fn reply_head(
     status: u16,
     length: u64,
     close: bool,
-    out: &mut Vec<u8>,
+    out: &mut String,
 ) -> Result<(), AllocError>
     requires { IsReplyStatus status }
-    ensures head { OnOk result (out.new.items ≡ out.old.items ++ head_of status length close) }
-    ensures unchanged { OnErr result (out.new.items ≡ out.old.items) }
-    ensures room { OnErr result (vec_capacity out.old < vec_len out.old + length_of (head_of status length close)) }
+    ensures head { OnOk result (string_bytes out.new ≡ string_bytes out.old ++ head_of status length close) }
+    ensures unchanged { OnErr result (string_bytes out.new ≡ string_bytes out.old) }
+    ensures room { OnErr result (string_capacity out.old < string_len out.old
+        + length_of (head_of status length close)) }
 {
     let (mut code, mut digits) = (Buffer::new(), Buffer::new());
-    let pieces: [&[u8]; 8] = [
-        b"HTTP/1.1 ",
-        code.format(status).as_bytes(),
-        b" ",
-        reason(status).as_bytes(),
+    let pieces: [&str; 8] = [
+        "HTTP/1.1 ",
+        code.format(status),
+        " ",
+        reason(status),
         allow(status),
-        b"Content-Type: text/plain; charset=utf-8\r\nContent-Length: ",
-        digits.format(length).as_bytes(),
+        "Content-Type: text/plain; charset=utf-8\r\nContent-Length: ",
+        digits.format(length),
         connection(close),
     ];
     append_all(&pieces, out)
@@ -53,35 +54,36 @@ fn reason(status: u16) -> &'static str
 }
 
 // The end of the first line, and what a refused method is told.
-fn allow(status: u16) -> &'static [u8]
+fn allow(status: u16) -> &'static str
     ensures { result.now ≡ allow_part status }
 {
     if status == 405 {
-        return b"\r\nAllow: GET\r\n";
+        return "\r\nAllow: GET\r\n";
     }
-    b"\r\n"
+    "\r\n"
 }
 
 // The end of the line of the length, whether the connection stays, and the empty line.
-fn connection(close: bool) -> &'static [u8]
+fn connection(close: bool) -> &'static str
     ensures { result.now ≡ connection_part close }
 {
     if close {
-        return b"\r\nConnection: close\r\n\r\n";
+        return "\r\nConnection: close\r\n\r\n";
     }
-    b"\r\nConnection: keep-alive\r\n\r\n"
+    "\r\nConnection: keep-alive\r\n\r\n"
 }
 
 // Appends all pieces, or none.
-fn append_all(pieces: &[&[u8]], out: &mut Vec<u8>) -> Result<(), AllocError>
-    ensures all { OnOk result (out.new.items ≡ out.old.items ++ concat (map (λ piece. piece.now) pieces.now)) }
-    ensures unchanged { OnErr result (out.new.items ≡ out.old.items) }
-    ensures room { OnErr result (vec_capacity out.old < vec_len out.old
+fn append_all(pieces: &[&str], out: &mut String) -> Result<(), AllocError>
+    ensures all { OnOk result (string_bytes out.new ≡ string_bytes out.old
+        ++ concat (map (λ piece. piece.now) pieces.now)) }
+    ensures unchanged { OnErr result (string_bytes out.new ≡ string_bytes out.old) }
+    ensures room { OnErr result (string_capacity out.old < string_len out.old
         + length_of (concat (map (λ piece. piece.now) pieces.now))) }
 {
     let start = out.len();
     for piece in pieces {
-        if let Err(fault) = out.extend_from_slice(piece) {
+        if let Err(fault) = out.push_str(piece) {
             out.truncate(start);
             return Err(fault);
         }

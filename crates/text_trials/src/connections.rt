@@ -129,12 +129,12 @@ fn heads_decide(rt: HostRuntime) -> Result<(), Fail> {
 #[test]
 fn a_reply_leaves_in_one_piece(rt: HostRuntime) -> Result<(), Fail> {
     let alloc = rt.alloc();
-    let mut piece = Vec::new(alloc);
+    let mut piece = String::new(alloc);
     // Two replies are two gives, and the third fails.
     let mut link = MemoryLink::new(alloc, Vec::new(alloc), 1, vec![in alloc; 3]?);
-    assert!(rt; give_reply(404, b"not found\n", false, false, &mut piece, &mut link) == Ok(()));
-    assert!(rt; give_reply(405, b"no\n", true, true, &mut piece, &mut link) == Ok(()));
-    let third = give_reply(503, b"busy\n", true, false, &mut piece, &mut link);
+    assert!(rt; give_reply(404, "not found\n", false, false, &mut piece, &mut link) == Ok(()));
+    assert!(rt; give_reply(405, "no\n", true, true, &mut piece, &mut link) == Ok(()));
+    let third = give_reply(503, "busy\n", true, false, &mut piece, &mut link);
     assert!(rt; third == Err(GiveFault::WriteFault));
     let wanted =
         b"HTTP/1.1 404 Not Found\r\nContent-Type: text/plain; charset=utf-8\r\nContent-Length: 10\r\n\

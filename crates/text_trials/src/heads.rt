@@ -172,7 +172,7 @@ fn targets(rt: HostRuntime) -> Result<(), Fail> {
         ),
     ];
     for (target, wanted, line) in rows {
-        let mut out = Vec::from_slice(alloc, b"> ")?;
+        let mut out = String::from_str(alloc, "> ")?;
         assert!(rt; route(target, &mut out) == Ok(wanted));
         assert!(rt; out.as_slice().strip_prefix(b"> ") == Some(line));
     }
@@ -203,13 +203,13 @@ fn heads_of_replies(rt: HostRuntime) -> Result<(), Fail> {
         ),
     ];
     for (status, length, close, wanted) in rows {
-        let mut out = Vec::from_slice(alloc, b"> ")?;
+        let mut out = String::from_str(alloc, "> ")?;
         assert!(rt; reply_head(status, length, close, &mut out).is_ok());
         let (first, last) = wanted.split_once('|').unwrap_or(("", ""));
         let wanted = format!(in alloc;
             "> HTTP/1.1 {first}Content-Type: text/plain; charset=utf-8\r\nContent-Length: {last}"
         )?;
-        assert!(rt; out.as_slice() == wanted.as_bytes());
+        assert!(rt; out == wanted);
     }
     Ok(())
 }
