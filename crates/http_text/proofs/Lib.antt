@@ -4,5 +4,5 @@ mod Laying
 mod Rows
 mod Served
 mod Statuses
-mod Staying
+pub mod Staying
 mod Valued
