@@ -18,4 +18,4 @@ pub use input::next_line;
 pub use length::answer_length;
 pub use line::{Line, Refusal, cut, is_coordinates, is_number, line_of, parse_line, read_number};
 pub use made_text::{write_made, write_survey};
-pub use text::{push_word_line, write_answer, write_refusal};
+pub use text::{append_answer, push_refusal, push_word_line, write_answer, write_refusal};

@@ -11,7 +11,7 @@ ghost use Rattle.implicit_tiling.specs.Text.{coordinate_texts, content_texts, ti
 ghost use Rattle.implicit_tiling.specs.Text.{end_line, step_end_line, refused_text};
 ghost use Rattle.tile_coords.specs.Ends.{end_seen, EndsAtRoot};
 ghost use Rattle.scene_ports.specs.Counts.{Rose};
-ghost use Rattle.scene_ports.specs.Output.{GivesFront};
+ghost use Rattle.scene_ports.specs.Output.{GivesFront, GivesAllBut};
 ghost use Rattle.request_text.specs.Fields.{joined, after_tab};
 
 use crate::fields::{push_coordinates, push_count, push_field, push_number, push_place};
@@ -42,12 +42,35 @@ pub fn write_answer<O: Outlet>(
     ensures aside { O.inlet_aside out.new ≡ O.inlet_aside out.old }
 {
     let mut piece = String::new(alloc);
-    for word in words {
-        push_word_line(layout, *word, &mut piece)?;
-        give_when_full(out, &mut piece)?;
-    }
-    push_end_line(layout.scheme, words.len(), end, &mut piece)?;
+    append_answer(layout, words, end, &mut piece, out)?;
     give_rest(out, &mut piece)
+}
+
+/// Appends the text of an answer to the piece that is held back, and gives the piece whenever it is full. After an `Err`
+/// some front of what the piece held and the text was given.
+pub fn append_answer<O: Outlet>(
+    layout: &Layout,
+    words: &[Word],
+    end: WalkEnd,
+    piece: &mut String,
+    out: &mut O,
+) -> Result<(), GiveFault>
+    requires words { All (IsWord layout.now.scheme) words.now }
+    requires root { EndsAtRoot layout.now.scheme end }
+    ensures given { OnOk result (GivesAllBut (O.given out.old) (O.given out.new) (string_bytes piece.new)
+        (string_bytes piece.old ++ words_text layout.now words.now (end_seen layout.now.scheme end))) }
+    ensures front { GivesFront (O.given out.old) (O.given out.new)
+        (string_bytes piece.old ++ words_text layout.now words.now (end_seen layout.now.scheme end)) }
+    ensures failed { result ≡ Err GiveFault.WriteFault → Rose (O.faults out.old) (O.faults out.new) }
+    ensures later { O.faults out.old ≤ O.faults out.new }
+    ensures aside { O.inlet_aside out.new ≡ O.inlet_aside out.old }
+{
+    for word in words {
+        push_word_line(layout, *word, piece)?;
+        give_when_full(out, piece)?;
+    }
+    push_end_line(layout.scheme, words.len(), end, piece)?;
+    Ok(())
 }
 
 /// Gives the text of a refused line, whose refusal has this number. After an `Err` some front of the text was given.
@@ -63,7 +86,8 @@ pub fn write_refusal<O: Outlet>(alloc: Global, number: u64, out: &mut O) -> Resu
     give_rest(out, &mut piece)
 }
 
-fn push_refusal(number: u64, piece: &mut String) -> Result<(), AllocError>
+/// Appends the text of a refused line.
+pub fn push_refusal(number: u64, piece: &mut String) -> Result<(), AllocError>
     ensures { OnOk result (string_bytes piece.new ≡ string_bytes piece.old ++ refused_text number) }
 {
     piece.push_str("refused\t")?;

@@ -1,50 +1,11 @@
-use Rattle.std.proofs.Common.{◌≡◌, ◌++◌, ◌∙◌, arith, take, length, take_all, List, ℕ, ap, string_bytes}
-use Rattle.implicit_tiling.specs.Scene.{Layout}
-use Rattle.implicit_tiling.specs.declared.Scheme.{Scheme}
-use Rattle.implicit_tiling.specs.Text.{word_line, step_end_line}
-use Rattle.tile_coords.specs.Ends.{end_seen}
-use Rattle.scene_ports.proofs.Giving.{all_but_front}
-use Rattle.request_text.proofs.Joined.{on_ok}
-use Rattle.request_text.proofs.Lines.{lines_front, line_given, line_front, end_given, end_front}
+use Rattle.request_text.proofs.Lines.{whole_given, whole_front, begun_front}
 use Rattle.request_text.proofs.text.write_answer.Goals as goal
 
-pub returns-in_err-push_word_line-clause-front : goal.returns-in_err-push_word_line-clause-front
-returns-in_err-push_word_line-clause-front g c =
-    lines_front (word_line c.args.layout.now) c.args.words.now c.loop-word.word-index _ _ _ (all_but_front _ _ _ _ c.loop-word.invariant.lines)
-
-pub returns-in_err-give_when_full-clause-front : goal.returns-in_err-give_when_full-clause-front
-returns-in_err-give_when_full-clause-front g c =
-    line_front _ _ _ (word_line c.args.layout.now) c.args.words.now c.loop-word.word-index c.word-item.result _ _ _ (omega arith) c.loop-word.invariant.lines
-    (c.in_ok-push_word_line.ensures ∙ ap (λ w. string_bytes c.loop-word.piece ++ word_line c.args.layout.now w) c.word-item.is) c.give_when_full.ensures.front
-
-pub loop-word-preserved : goal.loop-word-preserved
-loop-word-preserved g c = record {
-  lines = line_given _ _ _ (word_line c.args.layout.now) c.args.words.now c.loop-word.word-index c.word-item.result _ _ _ (omega arith) c.loop-word.invariant.lines
-      (c.in_ok-push_word_line.ensures ∙ ap (λ w. string_bytes c.loop-word.piece ++ word_line c.args.layout.now w) c.word-item.is) c.in_ok-give_when_full.ensures.given;
-  later = omega (arith, c.give_when_full.ensures.later, c.loop-word.invariant.later);
-  aside = c.give_when_full.ensures.aside ∙ c.loop-word.invariant.aside;
-}
-
-pub returns-in_err-push_end_line-clause-front : goal.returns-in_err-push_end_line-clause-front
-returns-in_err-push_end_line-clause-front g c =
-    lines_front (word_line c.args.layout.now) c.args.words.now c.loop-word.word-index _ _ _ (all_but_front _ _ _ _ c.loop-word.invariant.lines)
-
--- the end line is that of the layout's scheme
-end_is : (scheme same : Scheme) (one held : List ℕ) (line : Scheme → List ℕ) → scheme ≡ same → one ≡ held ++ line scheme → one ≡ held ++ line same
-end_is scheme same one held line e h = rw (← e) h
+pub returns-in_err-append_answer-clause-front : goal.returns-in_err-append_answer-clause-front
+returns-in_err-append_answer-clause-front g c = begun_front _ _ _ _ c.new-piece.ensures.bytes c.append_answer.ensures.front
 
 pub returns-clause-given : goal.returns-clause-given
-returns-clause-given g c =
-    let all : take c.loop-word.word-index c.args.words.now ≡ c.args.words.now = take_all _ _ (omega arith) in
-    let lines = rw all at c.loop-word.invariant.lines in
-    let scheme : c.layout.inside.scheme ≡ c.args.layout.now.scheme = ap (λ (l : Layout). l.scheme) c.layout.view_is in
-    let end = end_is _ _ _ _ (λ (s : Scheme). step_end_line s (length c.args.words.now) (end_seen s c.args.end)) scheme c.in_ok-push_end_line.ensures in
-    on_ok c.give_rest.result _ _ (end_given _ _ _ _ _ _ _ lines end) c.give_rest.ensures.given
+returns-clause-given g c = whole_given _ _ _ _ _ _ c.give_rest.result c.new-piece.ensures.bytes c.in_ok-append_answer.ensures.given c.give_rest.ensures.given
 
 pub returns-clause-front : goal.returns-clause-front
-returns-clause-front g c =
-    let all : take c.loop-word.word-index c.args.words.now ≡ c.args.words.now = take_all _ _ (omega arith) in
-    let lines = rw all at c.loop-word.invariant.lines in
-    let scheme : c.layout.inside.scheme ≡ c.args.layout.now.scheme = ap (λ (l : Layout). l.scheme) c.layout.view_is in
-    let end = end_is _ _ _ _ (λ (s : Scheme). step_end_line s (length c.args.words.now) (end_seen s c.args.end)) scheme c.in_ok-push_end_line.ensures in
-    end_front _ _ _ _ _ _ _ lines end c.give_rest.ensures.front
+returns-clause-front g c = whole_front _ _ _ _ _ _ c.new-piece.ensures.bytes c.in_ok-append_answer.ensures.given c.give_rest.ensures.front
