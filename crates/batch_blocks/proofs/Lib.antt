@@ -1,0 +1,5 @@
+pub mod Workers
+pub mod Cutting
+pub mod Plans
+pub mod Replies
+mod Rows
