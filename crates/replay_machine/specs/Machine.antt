@@ -7,6 +7,11 @@ use Rattle.implicit_tiling.specs.declared.Scheme.TheVariants.{Quad, Oct}
 use Rattle.implicit_tiling.specs.Region.{Region, Plan}
 use Rattle.frame_pool.specs.declared.frame.FrameState.{FrameState}
 use Rattle.frame_pool.specs.declared.frame.FrameState.TheVariants.{Empty}
+-- the frame of a pass: none, one that it loads, or one that it has pinned
+pub use Rattle.replay_machine.specs.declared.pass.Held.{Held}
+pub use Rattle.replay_machine.specs.declared.pass.Held.TheVariants.{Nothing as no_frame, Loads as loads, Pins as pins}
+-- a pass: its cursor by its number, the place in the answer of the tile that it reads next, and its frame
+pub use Rattle.replay_machine.specs.declared.pass.Pass.{Pass}
 
 -- A cursor: its plan, how many steps are made, and the pass that holds its work, if one does. It has no words, no roots
 -- and no subtree.
@@ -14,18 +19,6 @@ pub record Walk : Type 0 where
   pub plan : Plan
   pub made : ℕ
   pub holder : Option ℕ
-
--- the frame of a pass: none, one that it loads, or one that it has pinned
-pub data Held : Type 0 where
-  no_frame : Held
-  loads : ℕ → Held
-  pins : ℕ → Held
-
--- a pass: its cursor by its number, the place in the answer of the tile that it reads next, and its frame
-pub record Pass : Type 0 where
-  pub cursor : Option ℕ
-  pub place : ℕ
-  pub frame : Held
 
 -- the state of each frame, the numbers of the frames, the last asked first, the cursors and the passes
 pub record Machine : Type 0 where

@@ -3,5 +3,8 @@
 //! holds of every turn is the contract of a function that does nothing, and a lemma of `proofs/` to cite.
 #![tactic(auto)]
 
+mod pass;
 pub mod turn_laws;
 pub mod use_laws;
+
+pub use pass::{Held, Pass};
