@@ -21,7 +21,7 @@ use Rattle.replay_script.specs.declared.event.Event.{Event}
 use Rattle.replay_script.specs.declared.event.Event.TheVariants.{Attach, Claim, Pin, Load, Fail, Commit, Drop, Page, Bad}
 use Rattle.replay_machine.specs.Machine.{Walk, Held, no_frame, loads, pins, Pass, Machine, opening, is_same_plan, Standing, absent, idle, reads, works, standing}
 use Rattle.replay_machine.specs.Asking.{asked_of, granted_of, asked_by, asked}
-use Rattle.replay_machine.specs.Turns.{turn, attached, attach_at, attach_plan, attach, claim_walk, claim, pin_asked, pin_pair, pin_walk, pin, load_frame, unread, load, commit_frame, commit, given_up, drop_work, paged, page_on, page_tiles, next_pair, shown_end}
+use Rattle.replay_machine.specs.Turns.{turn, with_pass, attached, attach_at, attach_plan, attach, claim_walk, claim, pin_asked, pin_pair, pin_walk, pin, load_frame, unread, load, commit_frame, commit, given_up, drop_work, paged, page_on, page_tiles, next_pair, shown_end}
 use Rattle.replay_machine.specs.Used.{pinning, loading, FitsUse, StatesFit, IsInside, IsHolder, IsUsed}
 use Rattle.replay_machine.proofs.Stands.{AtWork, Stands, stands}
 use Rattle.replay_machine.proofs.Counts.{own_pin, own_load, no_pin, no_load, load_no_pin, pin_no_load, Touches, Becomes, states_after, states_stay, used_after, others_hold, holders_stay}
@@ -76,7 +76,7 @@ holder_of m p pass f is (inr h) = h
 at_work : (m : Machine) (p : ℕ) (pass : Pass) (c : ℕ) (walk : Walk) (frame : Held) → AtWork m p pass c walk → IsHolder m.cursors p (record pass { frame = frame })
 at_work m p pass c walk frame st = record { number = c; walk = walk; cursor = st.cursor; at = st.at; held = st.held }
 
-frameless : (m : Machine) (p : ℕ) (pass : Pass) → IsUsed m → slice_get m.passes p ≡ Some pass → (IsHolder m.cursors p pass → ⊥) → pass.frame ≡ no_frame
+pub frameless : (m : Machine) (p : ℕ) (pass : Pass) → IsUsed m → slice_get m.passes p ≡ Some pass → (IsHolder m.cursors p pass → ⊥) → pass.frame ≡ no_frame
 frameless m p pass used there free = ⊎_elim (λ (none : pass.frame ≡ no_frame). none) (λ (h : IsHolder m.cursors p pass). absurd (free h)) (used.working p pass there)
 
 others_keep : (m : Machine) (p : ℕ) (pass : Pass) (c : ℕ) (walk now : Walk) → AtWork m p pass c walk → (q : ℕ) (other : Pass) → q ≢ p → IsHolder m.cursors q other → IsHolder (set m.cursors c now) q other
@@ -84,7 +84,7 @@ others_keep m p pass c walk now st q other apart h = others_hold m.cursors c wal
 
 -- ---- attach
 
-attached_used : (m : Machine) (cursors : List Walk) (p c : ℕ) (pass : Pass) → IsUsed m → slice_get m.passes p ≡ Some pass → pass.frame ≡ no_frame
+pub attached_used : (m : Machine) (cursors : List Walk) (p c : ℕ) (pass : Pass) → IsUsed m → slice_get m.passes p ≡ Some pass → pass.frame ≡ no_frame
     → ((q : ℕ) (other : Pass) → q ≢ p → IsHolder m.cursors q other → IsHolder cursors q other) → IsUsed (attached p c (record m { cursors = cursors })).after
 attached_used m cursors p c pass used there none others =
     let after : Pass = record { cursor = Some c; place = 0; frame = no_frame } in
@@ -108,7 +108,7 @@ attach_used p wish m (works pass c walk) is used = used
 
 -- ---- claim
 
-claim_walk_used : (p : ℕ) (m : Machine) (c : ℕ) (walk : Walk) (end : StepEnd) (holder : Option ℕ) → walk.holder ≡ holder → slice_get m.cursors c ≡ Some walk → IsUsed m
+pub claim_walk_used : (p : ℕ) (m : Machine) (c : ℕ) (walk : Walk) (end : StepEnd) (holder : Option ℕ) → walk.holder ≡ holder → slice_get m.cursors c ≡ Some walk → IsUsed m
     → IsUsed (claim_walk p m c walk end holder).after
 claim_walk_used p m c walk (ended end) holder is at used = used
 claim_walk_used p m c walk partial (Some q) is at used = used
@@ -130,7 +130,7 @@ claim_used s p m (works pass c walk) is used = used
 
 -- ---- pin
 
-abbrev AskFits : List (FrameState ℕ) → Asked → Type 0
+abbrev pub AskFits : List (FrameState ℕ) → Asked → Type 0
 AskFits census (Hit f) = (own : ℕ) × (n : ℕ) × (slice_get census f ≡ Some (Ready own n))
 AskFits census (Granted f) = (state : FrameState ℕ) × (slice_get census f ≡ Some state) × (is_pinned state ≡ false)
 AskFits census Waiting = Unit {0}
@@ -150,7 +150,7 @@ asked_by_fits : (census : List (FrameState ℕ)) (order : List ℕ) (found : Opt
 asked_by_fits census order (Some f) = asked_of_fits census f (slice_get census f) refl
 asked_by_fits census order None = granted_of_fits census order (victim census order) refl
 
-pin_asked_used : (p key : ℕ) (pass : Pass) (c : ℕ) (walk : Walk) (m : Machine) (answer : Asked) → AtWork m p pass c walk → pass.frame ≡ no_frame → AskFits m.census answer → IsUsed m
+pub pin_asked_used : (p key : ℕ) (pass : Pass) (c : ℕ) (walk : Walk) (m : Machine) (answer : Asked) → AtWork m p pass c walk → pass.frame ≡ no_frame → AskFits m.census answer → IsUsed m
     → IsUsed (pin_asked p key pass m answer).after
 pin_asked_used p key pass c walk m (Hit f) st none fits used =
     let after : Pass = record pass { frame = pins f } in
@@ -186,7 +186,7 @@ pin_used s p m (works pass c walk) is used = pin_walk_used s p pass c walk m pas
 
 -- ---- load and fail
 
-load_frame_used : {X : Type 0} (p : ℕ) (read : Option X) (pass : Pass) (m : Machine) (frame : Held) → pass.frame ≡ frame → slice_get m.passes p ≡ Some pass → IsUsed m → IsUsed (load_frame p read pass m frame).after
+pub load_frame_used : {X : Type 0} (p : ℕ) (read : Option X) (pass : Pass) (m : Machine) (frame : Held) → pass.frame ≡ frame → slice_get m.passes p ≡ Some pass → IsUsed m → IsUsed (load_frame p read pass m frame).after
 load_frame_used p read pass m no_frame is there used = used
 load_frame_used p read pass m (pins f) is there used = used
 load_frame_used p (Some found) pass m (loads f) is there used =
@@ -210,7 +210,7 @@ load_used p read m (Some pass) is used = load_frame_used p read pass m pass.fram
 
 -- ---- commit and drop
 
-given_back_used : (m : Machine) (p f : ℕ) (pass : Pass) (c : ℕ) (walk now : Walk) → AtWork m p pass c walk → pass.frame ≡ pins f → IsUsed m
+pub given_back_used : (m : Machine) (p f : ℕ) (pass : Pass) (c : ℕ) (walk now : Walk) → AtWork m p pass c walk → pass.frame ≡ pins f → IsUsed m
     → IsUsed (record { census = changed f unpinned m.census; order = m.order; cursors = set m.cursors c now; passes = set m.passes p (record pass { frame = no_frame }) })
 given_back_used m p f pass c walk now st is used =
     let after : Pass = record pass { frame = no_frame } in
@@ -231,7 +231,7 @@ commit_used s p m (idle pass) is used = used
 commit_used s p m (reads pass c walk) is used = used
 commit_used s p m (works pass c walk) is used = commit_frame_used s p pass c walk m pass.frame is refl used
 
-given_up_used : (m : Machine) (p : ℕ) (pass : Pass) (c : ℕ) (walk now : Walk) (frame : Held) → AtWork m p pass c walk → pass.frame ≡ frame → IsUsed m
+pub given_up_used : (m : Machine) (p : ℕ) (pass : Pass) (c : ℕ) (walk now : Walk) (frame : Held) → AtWork m p pass c walk → pass.frame ≡ frame → IsUsed m
     → IsUsed (record { census = given_up frame m.census; order = m.order; cursors = set m.cursors c now; passes = set m.passes p (record pass { frame = no_frame }) })
 given_up_used m p pass c walk now no_frame st is used =
     let after : Pass = record pass { frame = no_frame } in
@@ -257,12 +257,14 @@ still_works : (m : Machine) (p : ℕ) (pass : Pass) (place : ℕ) → (pass.fram
 still_works m p pass place (inl none) = inl none
 still_works m p pass place (inr h) = inr (record { number = h.number; walk = h.walk; cursor = h.cursor; at = h.at; held = h.held })
 
-paged_used : (s : Scene) (p n : ℕ) (pass : Pass) (walk : Walk) (m : Machine) → slice_get m.passes p ≡ Some pass → IsUsed m → IsUsed (paged s p n pass walk m).after
-paged_used s p n pass walk m there used =
-    let place = pass.place + length (page_tiles s walk pass.place n) in
+pub placed_used : (p : ℕ) (pass : Pass) (place : ℕ) (m : Machine) → slice_get m.passes p ≡ Some pass → IsUsed m → IsUsed (with_pass p (record pass { place = place }) m)
+placed_used p pass place m there used =
     let after : Pass = record pass { place = place } in
     used_after m m.census m.order m.cursors p after used refl (states_stay m.census m.passes p pass after used.states there refl) (used.inside p pass there)
     (still_works m p pass place (used.working p pass there)) (λ q other apart h. h)
+
+paged_used : (s : Scene) (p n : ℕ) (pass : Pass) (walk : Walk) (m : Machine) → slice_get m.passes p ≡ Some pass → IsUsed m → IsUsed (paged s p n pass walk m).after
+paged_used s p n pass walk m there used = placed_used p pass (pass.place + length (page_tiles s walk pass.place n)) m there used
 
 page_used : (s : Scene) (p n : ℕ) (m : Machine) (st : Standing) → Stands m p st → IsUsed m → IsUsed (page_on s p n m st).after
 page_used s p n m absent is used = used
