@@ -2,8 +2,11 @@
 use Rattle.std.proofs.Common.{◌≡◌, ◌∙◌, ℕ, ◌+◌, ◌≤◌, List, [], ◌++◌, length, take, drop, map, Option, Some, None, refl, sym, ap, subst}
 use Rattle.std.specs.Prelude.{IfSome, IsSomeAnd}
 use Rattle.std.proofs.lemmas.List.{take-map, drop-map}
+use Rattle.std.specs.List.{All}
+use Rattle.std.proofs.lemmas.List.Elements.{All-take, All-drop}
+use Rattle.implicit_tiling.specs.declared.Scheme.{Scheme}
 use Rattle.implicit_tiling.specs.Scene.{Scene}
-use Rattle.implicit_tiling.specs.Code.{word, tile_word}
+use Rattle.implicit_tiling.specs.Code.{word, tile_word, IsWord}
 use Rattle.implicit_tiling.specs.Answer.{answer}
 use Rattle.region_cursor.specs.Cursor.{cursor_key}
 use Rattle.region_cursor.specs.Walked.{IsAt, IsNextKey, GivesStep}
@@ -59,3 +62,7 @@ page_shows s walk w page place most some is shows =
     is ∙ ap (λ ws. take most (drop place ws)) (shows.words_are ∙ ap (map (tile_word s)) front)
     ∙ ap (take most) (drop-map (tile_word s) place (take (length (shown_tiles s walk)) (answer s walk.plan.region).tiles))
     ∙ take-map (tile_word s) most (drop place (take (length (shown_tiles s walk)) (answer s walk.plan.region).tiles))
+
+-- the words of a page are words of tiles, as all of them are
+pub page_of_words : (scheme : Scheme) (page words : List ℕ) (place most : ℕ) → page ≡ take most (drop place words) → All (IsWord scheme) words → All (IsWord scheme) page
+page_of_words scheme page words place most is all = subst (All (IsWord scheme)) (sym is) (All-take (IsWord scheme) most (drop place words) (All-drop (IsWord scheme) place words all))

@@ -1,8 +1,10 @@
 // A paused walk with what its steps gave.
-ghost use Rattle.std.specs.Prelude.{ℕ, ◌≡◌, ◌≤◌, length, take, drop, map, IfOk, IfErr, IfSome, IsSome, IsSomeAnd, None};
+ghost use Rattle.std.specs.Prelude.{ℕ, ◌≡◌, ◌+◌, ◌^◌, ◌<◌, ◌≤◌, length, take, drop, map, IfOk, IfErr, IfSome, IsSome, IsSomeAnd, None};
 ghost use Rattle.implicit_tiling.specs.Scene.{Scene};
-ghost use Rattle.implicit_tiling.specs.Code.{word, tile_word};
-ghost use Rattle.tile_coords.specs.Ends.{end_seen};
+ghost use Rattle.std.specs.List.{All};
+ghost use Rattle.implicit_tiling.specs.Code.{word, tile_word, IsWord};
+ghost use Rattle.tile_coords.specs.Ends.{end_seen, EndsAtRoot};
+ghost use Rattle.tile_coords.specs.declared.walk_end.WalkEnd.TheVariants.{Partial};
 ghost use Rattle.subtree_outcome.specs.Outcomes.{outcome_seen, HasNoOrphans};
 ghost use Rattle.walk_laws.specs.Plans.{FitsLayout};
 ghost use Rattle.region_cursor.specs.Cursor.{cursor_key, next_root, Fits, IsRootKey, IsWalkOf, IsSameWalk};
@@ -30,14 +32,13 @@ pub struct ShownWalk {
 
 impl Model for ShownWalk {
     ghost use Rattle.std.specs.Prelude.{◌++◌};
-    ghost use Rattle.region_cursor.specs.Cursor.{cursor_key};
-    ghost use Rattle.replay_core.specs.Shown.{Shown, GoesOn};
+    ghost use Rattle.replay_core.specs.Shown.{Shown, IsShownWalk};
 
     ghost Value = { Shown };
 
     ghost view = { λ w. record { cursor = w.state; words = w.words.items ++ w.fresh.items; end = w.end } };
 
-    ghost invariant = { λ w. GoesOn w.end (cursor_key w.state) };
+    ghost invariant = { λ w. IsShownWalk (record { cursor = w.state; words = w.words.items ++ w.fresh.items; end = w.end }) };
 }
 
 impl ShownWalk {
@@ -60,6 +61,7 @@ impl ShownWalk {
     pub fn next_key(&self) -> Option<Word>
         ensures key { result ≡ cursor_key self.now.cursor }
         ensures root { IfSome result (IsRootKey self.now.cursor) }
+        ensures some { self.now.end ≡ Partial → IsSome result }
         ensures scene { (s : Scene) (walk : Walk) → Shows s walk self.now
             → IfSome result (λ key. IsSomeAnd (next_pair s walk) (λ pair. key ≡ word s.layout.scheme pair.root 0)) }
     {
@@ -70,6 +72,7 @@ impl ShownWalk {
     pub fn end(&self) -> WalkEnd
         ensures end { result ≡ self.now.end }
         ensures goes_on { GoesOn result (cursor_key self.now.cursor) }
+        ensures root { EndsAtRoot self.now.cursor.scheme result }
         ensures scene { (s : Scene) (walk : Walk) → Shows s walk self.now
             → end_seen s.layout.scheme result ≡ shown_end s walk }
     {
@@ -97,6 +100,8 @@ impl ShownWalk {
     /// as it was.
     pub fn page(&mut self, alloc: Global, from: usize, most: usize) -> Result<Vec<Word>, AllocError>
         ensures words { IfOk result (λ words. words.items ≡ take most (drop from self.old.words)) }
+        ensures are_words { IfOk result (λ words. All (IsWord self.old.cursor.scheme) words.items) }
+        ensures within { IfOk result (λ words. from + length words.items < 2 ^ 64) }
         ensures same { self.new ≡ self.old }
         ensures scene { IfOk result (λ words. (s : Scene) (walk : Walk) → 1 ≤ s.layout.subtree_levels
             → Shows s walk self.old → words.items ≡ map (tile_word s) (page_tiles s walk from most)) }
