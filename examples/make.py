@@ -1,5 +1,5 @@
 #!/usr/bin/env python3
-"""Makes the tilesets examples/terrain, points, inner_buffer and faulty anew: small, and of the shape of real ones.
+"""Makes the tilesets examples/terrain, points, inner_buffer, outer_buffer and faulty anew: small, and of the shape of real ones.
 
 A tile is there where a sample of the scene is in it. The files are written by the plain rules of OGC 22-025r4: bit by bit,
 from the set of tiles. tests/black_box.py reads that set from here and compares it with what the program answers. The files of
@@ -52,6 +52,14 @@ def inner_buffer():
             "contents": ["c/{level}/{x}/{y}.glb"], "has": lambda tile, content: tile[0] > 0}
 
 
+def outer_buffer():
+    """A quadtree of four levels in subtrees of two, whose subtree files are JSON and whose bitstreams stand in files beside
+    them."""
+    leaves = {(0, 0), (1, 0), (1, 1), (2, 5), (3, 4), (6, 7), (7, 7)}
+    return {"name": "outer_buffer", "scheme": "QUADTREE", "axes": 2, "subtree": 2, "levels": 4, "tiles": with_ancestors(3, leaves),
+            "contents": ["c/{level}/{x}/{y}.glb"], "has": lambda tile, content: tile[0] != 1, "form": "json"}
+
+
 def interleaved(coordinates):
     axes = len(coordinates)
     return sum((c >> j & 1) << (axes * j + a) for a, c in enumerate(coordinates) for j in range(32))
@@ -82,8 +90,8 @@ def availability(bits, views, binary):
     return {"bitstream": len(views) - 1, "availableCount": sum(bits)}
 
 
-def file_of_bits(tiles, contents, children):
-    """The subtree file of these bits: the header, the record padded by spaces, and the buffer padded by zeros."""
+def record_of_bits(tiles, contents, children):
+    """The record of these bits, and the bytes of its buffer, padded by zeros."""
     views, binary = [], bytearray()
     record = {"tileAvailability": availability(tiles, views, binary),
               "contentAvailability": [availability(content, views, binary) for content in contents],
@@ -91,21 +99,42 @@ def file_of_bits(tiles, contents, children):
     if views:
         binary += b"\0" * (-len(binary) % 8)
         record = {"buffers": [{"byteLength": len(binary)}], "bufferViews": views, **record}
+    return record, bytes(binary)
+
+
+def file_of_bits(tiles, contents, children):
+    """The subtree file of these bits: the header, the record padded by spaces, and the buffer padded by zeros."""
+    record, binary = record_of_bits(tiles, contents, children)
     text = json.dumps(record).encode()
     text += b" " * (-len(text) % 8)
-    return b"subt" + struct.pack("<IQQ", 1, len(text), len(binary)) + text + bytes(binary)
+    return b"subt" + struct.pack("<IQQ", 1, len(text), len(binary)) + text + binary
 
 
-def subtree_file(scene, root):
+def bits_of(scene, root):
+    """The bits of the subtree of a root: of its tiles, of their contents, and of its child subtrees."""
     axes, depth, there = scene["axes"], scene["subtree"], scene["tiles"]
 
     def tile(local, index):
         base = interleaved(root[1:]) << axes * local
         return (root[0] + local,) + separated(axes, base + index)
     nodes = [tile(local, index) for local in range(depth) for index in range(2 ** (axes * local))]
-    return file_of_bits([t in there for t in nodes],
-                        [[t in there and scene["has"](t, c) for t in nodes] for c in range(len(scene["contents"]))],
-                        [tile(depth, index) in there for index in range(2 ** (axes * depth))])
+    return ([t in there for t in nodes], [[t in there and scene["has"](t, c) for t in nodes] for c in range(len(scene["contents"]))],
+            [tile(depth, index) in there for index in range(2 ** (axes * depth))])
+
+
+def subtree_file(scene, root):
+    return file_of_bits(*bits_of(scene, root))
+
+
+def subtree_files(scene, root):
+    """The subtree file of a root, and the files beside it, by the ends of their names behind its own."""
+    if scene.get("form") != "json":
+        return {"": subtree_file(scene, root)}
+    record, binary = record_of_bits(*bits_of(scene, root))
+    if not binary:
+        return {"": json.dumps(record, indent=1).encode() + b"\n"}
+    record["buffers"][0]["uri"] = f"{root[2]}.bits.bin"
+    return {"": json.dumps(record, indent=1).encode() + b"\n", ".bits.bin": binary}
 
 
 def faulty():
@@ -140,9 +169,14 @@ def write(scene):
         file.write("\n")
     broken = broken_files(scene) if scene["name"] == "faulty" else {}
     for tile in scene["tiles"]:
-        data = broken.get(tile, subtree_file(scene, tile)) if tile[0] % scene["subtree"] == 0 else None
-        if data is not None:
+        if tile[0] % scene["subtree"]:
+            continue
+        files = {"": broken[tile]} if tile in broken else subtree_files(scene, tile)
+        for end, data in files.items():
+            if data is None:
+                continue
             path = os.path.join(folder, filled(template, tile))
+            path = path.removesuffix(".subtree") + end if end else path
             os.makedirs(os.path.dirname(path), exist_ok=True)
             with open(path, "wb") as file:
                 file.write(data)
@@ -158,7 +192,7 @@ def answer(scene, level, low, high):
     return "".join(row + "\n" for row in rows + [f"end\tcomplete\t{len(there)}"])
 
 
-SCENES = [terrain(), points(), inner_buffer()]
+SCENES = [terrain(), points(), inner_buffer(), outer_buffer()]
 
 if __name__ == "__main__":
     for scene in [*SCENES, faulty()]:

@@ -8,6 +8,7 @@ import sys
 if not 2 <= len(sys.argv) <= 3:
     sys.exit(__doc__)
 
+import buffers
 import edges
 import examples
 import extremes
@@ -18,6 +19,7 @@ import walking
 walking.cases()
 making.cases()
 edges.cases()
+buffers.cases()
 examples.cases()
 extremes.cases()
 passed, failed = harness.counts["passed"], harness.counts["failed"]

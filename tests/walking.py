@@ -34,7 +34,7 @@ def tiles_cases():
                               ("another_magic", b"Subt" + whole[4:], 4), ("another_version", whole[:4] + b"\2" + whole[5:], 5)):
         run(name, {**a, "s/0/0/0.subtree": data}, ["tiles", "1", "0,0", "1,1"], lines(f"end|fault|0|{fault}|0|0|0"), 1)
     for name, change, fault in (("a_view_out", set_view(1, "byteLength", 3), 14), ("a_view_short", set_view(1, "byteLength", 1), 15),
-                                ("an_external_buffer", set_buffer("uri", "x.bin"), 13), ("an_unknown_view", set_child({"bitstream": 2}), 12)):
+                                ("an_external_buffer", set_buffer("uri", "x.bin"), 19), ("an_unknown_view", set_child({"bitstream": 2}), 12)):
         run(name, tileset_d(change=change), ["tiles", "3", "0,0", "7,7"], lines(f"end|fault|0|{fault}|0|0|0"), 1)
     run("a_subtree_file_that_is_too_long", tileset_a(subtree=whole.ljust(16777217, b"\0")), ["tiles", "1", "0,0", "1,1"],
         lines("end|fault|0|2|0|0|0"), 1)

@@ -110,7 +110,7 @@ fn sum_of_decodes(alloc: Global, layout: &Layout, file: &[u8], calls: u64) -> u6
 {
     let mut sum = 0u64;
     for _ in 0..calls {
-        if let Ok(subtree) = decode(alloc, layout, Tile::root(), file) {
+        if let Ok(subtree) = decode(alloc, layout, Tile::root(), file, &[]) {
             sum = sum.wrapping_add(sum_of_bits(&subtree));
         }
     }

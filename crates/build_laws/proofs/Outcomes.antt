@@ -10,7 +10,7 @@ use Rattle.implicit_tiling.specs.Scene.{Layout, Scene, Outcome, good, fault_of, 
 use Rattle.implicit_tiling.specs.Availability.{subtree_root, is_subtree_root, place, tile_bit, child_bit}
 use Rattle.implicit_tiling.specs.Subtree.{bits_of}
 use Rattle.implicit_tiling.specs.Code.{word_level, word_index, word_tile}
-use Rattle.implicit_tileset.specs.SubtreeFile.{outcome_in}
+use Rattle.implicit_tileset.specs.FileOutcome.{outcome_of_bytes}
 use Rattle.implicit_tileset.specs.Scene.{subtree_name, scene_of}
 use Rattle.tiling_laws.proofs.TileAt.{tile_at_is_tile}
 use Rattle.tiling_laws.proofs.Places.{tile_from_place}
@@ -35,8 +35,8 @@ files_are_good layout words files are have = record {
   are = are;
   good_at = λ r there.
       let well = made_well layout words r are (made_is layout words r are.limits.some_levels are.whole.are_words there) in
-      ap (outcome_in layout r) (All-contains (λ r. file (subtree_name layout r) files ≡ Some (canonical (made_subtree layout words r))) (made_roots layout words) r have there)
-      ∙ canonical_files_are_good layout (made_subtree layout words r) well.subtree well.of_layout well.rules;
+      ap (outcome_of_bytes (λ name. file name files) layout r) (All-contains (λ r. file (subtree_name layout r) files ≡ Some (canonical (made_subtree layout words r))) (made_roots layout words) r have there)
+      ∙ canonical_files_are_good (λ name. file name files) layout (made_subtree layout words r) well.subtree well.of_layout well.rules;
 }
 
 pub no_fault : (s : Scene) (words : List ℕ) (r : Tile) → IsMadeOf s words → Contains (made_roots s.layout words) r → fault_of (s.outcome r) ≡ None

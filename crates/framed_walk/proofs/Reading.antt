@@ -1,17 +1,18 @@
 -- How often files are read from turn to turn.
-use Rattle.std.proofs.Common.{◌≡◌, ◌∙◌, ℕ, ◌+◌, List, [], ◌∷◌, ◌++◌, length, map, take, Option, Some, None, refl, sym, ap, subst, arith}
+use Rattle.std.proofs.Common.{◌≡◌, ◌∙◌, ℕ, ◌+◌, List, [], ◌∷◌, ◌++◌, length, map, take, Option, Some, None, refl, sym, ap, subst, arith, append-nil, append_assoc}
 use Rattle.std.specs.Prelude.{IsSomeAnd, eqb}
 use Rattle.std.specs.List.{slice_get}
 use Rattle.std.proofs.lemmas.List.{map-append, take_more}
 use Rattle.std.proofs.lemmas.Option.{slice_get_within, get_or_from_slice_get}
 use Rattle.implicit_tiling.specs.Region.{Region}
-use Rattle.implicit_tiling.specs.Scene.{Scene}
+use Rattle.implicit_tiling.specs.Files.{Files}
+use Rattle.implicit_tiling.specs.Code.{word_tile}
+use Rattle.implicit_tiling.specs.Scene.{Layout, Scene}
 use Rattle.implicit_tiling.specs.Steps.{Pair, pairs, steps}
-use Rattle.scene_ports.specs.Counts.{more_by}
 use Rattle.frame_pool.specs.Frames.{Frames}
 use Rattle.frame_pool.specs.Moves.{IsAskAnswer, after_unpin}
 use Rattle.subtree_outcome.specs.declared.outcome.Outcome.{Outcome}
-use Rattle.subtree_outcome.proofs.Counting.{none_more, more_counted}
+use Rattle.subtree_outcome.proofs.Fetching.{none_fetched, fetched_together}
 use Rattle.tile_coords.specs.declared.walk_end.WalkEnd.{WalkEnd}
 use Rattle.region_cursor.specs.Cursor.{Cursor}
 use Rattle.region_cursor.specs.Joined.{HasWalked}
@@ -19,27 +20,31 @@ use Rattle.region_cursor.specs.Walked.{root_word, IsNextKey}
 use Rattle.framed_walk.specs.Reads.{reads_of, frame_of, in_turn, after_turn, Turns, HasRead, IsInTurn, step_keys}
 
 -- one turn more
-turns_more : (first : Frames ℕ Outcome) (keys : List ℕ) (frames : Frames ℕ Outcome) (reads key f : ℕ) (now after : Frames ℕ Outcome) (before fetches : ℕ)
-    → Turns first keys frames reads → (t : IsInTurn key f frames now before fetches) → after ≡ after_unpin f now → Turns first (keys ++ key ∷ []) after (reads + reads_of t.asked)
-turns_more first [] frames reads key f now after before fetches done t is =
+turns_more : (layout : Layout) (told : Option Files) (first : Frames ℕ Outcome) (keys : List ℕ) (frames : Frames ℕ Outcome) (reads : List ℕ) (key f : ℕ) (now after : Frames ℕ Outcome) (before fetches : ℕ)
+    → Turns first keys frames reads → (t : IsInTurn layout told key f frames now before fetches) → after ≡ after_unpin f now → Turns first (keys ++ key ∷ []) after (reads ++ reads_of key t.asked)
+turns_more layout told first [] frames reads key f now after before fetches done t is =
     let P : Frames ℕ Outcome → Type 0 = λ p. IsAskAnswer eqb key p t.asked in
     let ends : after ≡ after_turn key t.found t.asked first =
     is ∙ ap (λ n. after_unpin n now) t.frame ∙ ap (after_unpin (frame_of t.asked)) (t.held ∙ ap (in_turn key t.found t.asked) done.0) in
-    (t.asked, t.found, 0, subst P done.0 t.answer, (ends, refl), omega (arith, done.1))
-turns_more first (k ∷ keys) frames reads key f now after before fetches done t is =
-    let more = turns_more (after_turn k done.1 done.0 first) keys frames done.2 key f now after before fetches done.4 t is in
-    (done.0, done.1, done.2 + reads_of t.asked, done.3, more, omega (arith, done.5))
+    (t.asked, t.found, [], subst P done.0 t.answer, (ends, refl), ap (λ r. r ++ reads_of key t.asked) done.1 ∙ sym (append-nil (reads_of key t.asked)))
+turns_more layout told first (k ∷ keys) frames reads key f now after before fetches done t is =
+    let more = turns_more layout told (after_turn k done.1 done.0 first) keys frames done.2 key f now after before fetches done.4 t is in
+    (done.0, done.1, done.2 ++ reads_of key t.asked, done.3, more, ap (λ r. r ++ reads_of key t.asked) done.5 ∙ append_assoc (reads_of k done.0) done.2 (reads_of key t.asked))
 
-pub none_read : (first : Frames ℕ Outcome) (before : ℕ) → HasRead first [] first before before
-none_read first before = record { reads = 0; turns = (refl, refl); fetched = sym (none_more before) }
+pub none_read : (layout : Layout) (told : Option Files) (first : Frames ℕ Outcome) (before : ℕ) → HasRead layout told first [] first before before
+none_read layout told first before = record { reads = []; turns = (refl, refl); fetched = none_fetched layout told before }
 
-pub read_more : (first : Frames ℕ Outcome) (keys : List ℕ) (frames : Frames ℕ Outcome) (key f : ℕ) (now after : Frames ℕ Outcome) (before mid fetches : ℕ)
-    → HasRead first keys frames before mid → IsInTurn key f frames now mid fetches → after ≡ after_unpin f now → HasRead first (keys ++ key ∷ []) after before fetches
-read_more first keys frames key f now after before mid fetches r t is = record {
-  reads = r.reads + reads_of t.asked;
-  turns = turns_more first keys frames r.reads key f now after mid fetches r.turns t is;
-  fetched = t.fetched ∙ ap (more_by (reads_of t.asked)) r.fetched ∙ more_counted (reads_of t.asked) r.reads before;
-}
+pub read_more : (layout : Layout) (told now_told : Option Files) (first : Frames ℕ Outcome) (keys : List ℕ) (frames : Frames ℕ Outcome) (key f : ℕ) (now after : Frames ℕ Outcome) (before mid fetches : ℕ)
+    → HasRead layout told first keys frames before mid → IsInTurn layout now_told key f frames now mid fetches → now_told ≡ told → after ≡ after_unpin f now
+    → HasRead layout told first (keys ++ key ∷ []) after before fetches
+read_more layout told now_told first keys frames key f now after before mid fetches r t same is =
+    let tile = word_tile layout.scheme in
+    record {
+      reads = r.reads ++ reads_of key t.asked;
+      turns = turns_more layout now_told first keys frames r.reads key f now after mid fetches r.turns t is;
+      fetched = fetched_together layout told now_told (map tile r.reads) (map tile (reads_of key t.asked)) (map tile (r.reads ++ reads_of key t.asked)) before mid fetches r.fetched t.fetched same
+          (map-append tile r.reads (reads_of key t.asked));
+    }
 
 -- the keys of one step more
 next_pair : (s : Scene) (ps : List Pair) (k key : ℕ) (here : Option Pair) → slice_get ps k ≡ here → IsSomeAnd here (λ p. key ≡ root_word s p.root)

@@ -1,24 +1,25 @@
 -- Which files a walk over frames reads (this project's own).
-use Rattle.std.specs.Prelude.{ℕ, ◌≡◌, ◌+◌, eqb, List, [], ◌∷◌, length, map, take, Option, Some, IfSome}
+use Rattle.std.specs.Prelude.{ℕ, ◌≡◌, eqb, List, [], ◌∷◌, ◌++◌, length, map, take, Option, Some, IfSome}
 use Rattle.implicit_tiling.specs.Files.{Files}
 use Rattle.implicit_tiling.specs.Region.{Region}
 use Rattle.implicit_tiling.specs.Scene.{Layout, Scene}
 use Rattle.implicit_tiling.specs.Steps.{pairs, steps}
+use Rattle.implicit_tiling.specs.Code.{word_tile}
 use Rattle.implicit_tileset.specs.Scene.{scene_of}
-use Rattle.scene_ports.specs.Counts.{more_by}
 use Rattle.frame_pool.specs.declared.frame.Asked.{Asked}
 use Rattle.frame_pool.specs.declared.frame.Asked.TheVariants.{Hit, Granted, Loading, Busy}
 use Rattle.frame_pool.specs.Frames.{Frames, empty_frames}
 use Rattle.frame_pool.specs.Moves.{IsAskAnswer, after_ask, after_settle, after_unpin}
 use Rattle.subtree_outcome.specs.declared.outcome.Outcome.{Outcome}
+use Rattle.subtree_outcome.specs.Fetched.{HasFetched}
 use Rattle.region_cursor.specs.Walked.{root_word}
 
--- a file is read for a key that is granted, and for no other
-abbrev pub reads_of : Asked → ℕ
-reads_of (Hit f) = 0
-reads_of (Granted f) = 1
-reads_of Loading = 0
-reads_of Busy = 0
+-- the outcome of a key that is granted is read, and of no other
+abbrev pub reads_of : ℕ → Asked → List ℕ
+reads_of key (Hit f) = []
+reads_of key (Granted f) = key ∷ []
+reads_of key Loading = []
+reads_of key Busy = []
 
 -- the frame of an answer
 abbrev pub frame_of : Asked → ℕ
@@ -38,37 +39,38 @@ in_turn key found Busy frames = frames
 abbrev pub after_turn : ℕ → Outcome → Asked → Frames ℕ Outcome → Frames ℕ Outcome
 after_turn key found asked frames = after_unpin (frame_of asked) (in_turn key found asked frames)
 
--- from some frames to others by a turn with each key, one after another: so many files are read
-abbrev pub Turns : Frames ℕ Outcome → List ℕ → Frames ℕ Outcome → ℕ → Type 0
-Turns frames [] last reads = (last ≡ frames) × (reads ≡ 0)
-Turns frames (key ∷ keys) last reads = (asked : Asked) × (found : Outcome) × (rest : ℕ)
+-- from some frames to others by a turn with each key, one after another: the outcomes of these keys are read
+abbrev pub Turns : Frames ℕ Outcome → List ℕ → Frames ℕ Outcome → List ℕ → Type 0
+Turns frames [] last reads = (last ≡ frames) × (reads ≡ [])
+Turns frames (key ∷ keys) last reads = (asked : Asked) × (found : Outcome) × (rest : List ℕ)
     × IsAskAnswer eqb key frames asked
-    × Turns (after_turn key found asked frames) keys last rest × (reads ≡ reads_of asked + rest)
+    × Turns (after_turn key found asked frames) keys last rest × (reads ≡ reads_of key asked ++ rest)
 
 -- the keys of the steps of a walk, in their order
 abbrev pub step_keys : Scene → Region → ℕ → List ℕ
 step_keys s region k = map (λ p. root_word s p.root) (take k (pairs s region))
 
 -- the fetches of turns with some keys
-pub record HasRead (first : Frames ℕ Outcome) (keys : List ℕ) (last : Frames ℕ Outcome) (before now : ℕ) : Type 0 where
-  pub reads : ℕ
+pub record HasRead (layout : Layout) (told : Option Files) (first : Frames ℕ Outcome) (keys : List ℕ) (last : Frames ℕ Outcome)
+    (before now : ℕ) : Type 0 where
+  pub reads : List ℕ
   pub turns : Turns first keys last reads
-  pub fetched : now ≡ more_by reads before
+  pub fetched : HasFetched layout told (map (word_tile layout.scheme) reads) before now
 
--- The fetches of a walk over n frames: one for each key that n frames, empty at first, grant. Where files are told, the
+-- The fetches of a walk over n frames: those for each key that n frames, empty at first, grant. Where files are told, the
 -- keys are those of the steps.
 pub record IsReadOver (n : ℕ) (layout : Layout) (told : Option Files) (region : Region) (before now : ℕ) : Type 0 where
   pub keys : List ℕ
   pub last : Frames ℕ Outcome
-  pub read : HasRead (empty_frames n) keys last before now
+  pub read : HasRead layout told (empty_frames n) keys last before now
   pub of_steps : IfSome told (λ all. keys ≡ step_keys (scene_of all layout) region
       (length (steps (scene_of all layout) region)))
 
--- a turn that has begun: the pool was asked for the key, and what it granted was read by one fetch
-pub record IsInTurn (key f : ℕ) (frames now : Frames ℕ Outcome) (before after : ℕ) : Type 0 where
+-- a turn that has begun: the pool was asked for the key, and what it granted was read
+pub record IsInTurn (layout : Layout) (told : Option Files) (key f : ℕ) (frames now : Frames ℕ Outcome) (before after : ℕ) : Type 0 where
   pub asked : Asked
   pub found : Outcome
   pub answer : IsAskAnswer eqb key frames asked
   pub frame : f ≡ frame_of asked
   pub held : now ≡ in_turn key found asked frames
-  pub fetched : after ≡ more_by (reads_of asked) before
+  pub fetched : HasFetched layout told (map (word_tile layout.scheme) (reads_of key asked)) before after

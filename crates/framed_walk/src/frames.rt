@@ -1,9 +1,10 @@
 // The outcomes that frames hold.
-ghost use Rattle.std.specs.Prelude.{◌≡◌, ◌≢◌, ◌≤◌, IfOk, IfErr, Err};
-ghost use Rattle.implicit_tiling.specs.Code.{word_level};
-ghost use Rattle.scene_ports.specs.Counts.{Rose, one_more};
+ghost use Rattle.std.specs.Prelude.{◌≡◌, ◌≢◌, ◌≤◌, ◌∷◌, [], IfOk, IfErr, Err};
+ghost use Rattle.implicit_tiling.specs.Code.{word_level, word_tile};
+ghost use Rattle.scene_ports.specs.Counts.{Rose};
 ghost use Rattle.tile_word.specs.Roots.{IsRootWord};
 ghost use Rattle.subtree_outcome.specs.Outcomes.{IsOutcomeOf};
+ghost use Rattle.subtree_outcome.specs.Fetched.{HasFetched};
 ghost use Rattle.framed_walk.specs.Frames.{AreAtRest, IsHeld};
 ghost use Rattle.framed_walk.specs.Reads.{IsInTurn};
 
@@ -31,7 +32,8 @@ pub(crate) fn hold<S: FileSource>(
     ensures sure { result ≢ Err WalkStop.ReadFault → S.faults files.new ≡ S.faults files.old }
     ensures later { S.faults files.old ≤ S.faults files.new }
     ensures turn { IfOk result
-        (λ frame. IsInTurn key frame pool.old pool.new (S.fetches files.old) (S.fetches files.new)) }
+        (λ frame. IsInTurn layout.now (S.told files.old) key frame pool.old pool.new
+        (S.fetches files.old) (S.fetches files.new)) }
     ensures same { S.told files.new ≡ S.told files.old }
 {
     match pool.ask(key) {
@@ -51,7 +53,7 @@ pub(crate) fn hold<S: FileSource>(
     }
 }
 
-// The outcome of a key, by one fetch.
+// The outcome of a key.
 fn read<S: FileSource>(
     alloc: Global,
     files: &mut S,
@@ -63,7 +65,8 @@ fn read<S: FileSource>(
     ensures failed { result ≡ Err WalkStop.ReadFault → Rose (S.faults files.old) (S.faults files.new) }
     ensures sure { result ≢ Err WalkStop.ReadFault → S.faults files.new ≡ S.faults files.old }
     ensures later { S.faults files.old ≤ S.faults files.new }
-    ensures fetched { IfOk result (λ found. S.fetches files.new ≡ one_more (S.fetches files.old)) }
+    ensures fetched { IfOk result (λ found. HasFetched layout.now (S.told files.old)
+        (word_tile layout.now.scheme key ∷ []) (S.fetches files.old) (S.fetches files.new)) }
     ensures same { S.told files.new ≡ S.told files.old }
 {
     read_subtree(alloc, files, layout, root_tile(layout, key))

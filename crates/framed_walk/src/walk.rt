@@ -82,7 +82,7 @@ fn walk<S: FileSource>(
     ensures sure { result ≢ Err WalkStop.ReadFault → S.faults files.new ≡ S.faults files.old }
     ensures later { S.faults files.old ≤ S.faults files.new }
     ensures fetched { IfOk result (λ end. (keys : List ℕ)
-        × HasRead pool.old keys pool.new (S.fetches files.old) (S.fetches files.new)
+        × HasRead layout.now (S.told files.old) pool.old keys pool.new (S.fetches files.old) (S.fetches files.new)
         × IfSome (S.told files.old) (λ all. keys ≡ step_keys (scene_of all layout.now) cursor.old.region
         (length (steps (scene_of all layout.now) cursor.old.region)))) }
     ensures same { S.told files.new ≡ S.told files.old }

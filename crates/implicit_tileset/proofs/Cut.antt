@@ -14,7 +14,7 @@ use Rattle.implicit_tiling.specs.Scene.{Layout}
 use Rattle.implicit_tiling.specs.Subtree.{Subtree}
 use Rattle.implicit_tileset.specs.SubtreeFile.{Parts, parts_of, parts_at, version, json_length, binary_length, and_then, wanted_contents, used_of}
 use Rattle.implicit_tileset.specs.FileForms.{FileParts, is_json_form, file_parts, both_parts}
-use Rattle.implicit_tileset.specs.NamedBuffers.{named_record_of, plain}
+use Rattle.implicit_tileset.specs.Record.{record_of}
 use Rattle.implicit_tileset.specs.BufferFiles.{Find}
 use Rattle.implicit_tileset.specs.FileOutcome.{subtree_of_record, subtree_found}
 use Rattle.implicit_tileset.specs.CutFiles.{IsBetween, CutFilesAreTold}
@@ -96,8 +96,8 @@ bytes_same xs ys e = (bytes_eq-Decides xs ys).0 e
 -- ---- the rows of a front
 
 abbrev found_by : Find → Layout → Tile → Result FileParts ℕ → Result Subtree ℕ
-found_by find layout root r = and_then r (λ parts. and_then (named_record_of parts.json) (λ r. need 11 (wanted_contents layout (plain r)) (λ contents.
-    subtree_of_record find layout root parts.binary r contents (used_of layout (plain r) contents))))
+found_by find layout root r = and_then r (λ parts. and_then (record_of parts.json) (λ r. need 11 (wanted_contents layout r) (λ contents.
+    subtree_of_record find layout root parts.binary r contents (used_of layout r contents))))
 
 abbrev all_rows : List ℕ → Bool → Bool → Bool → Bool → Result FileParts ℕ
 all_rows bytes b3 b4 b5 b6 = and_then (refuse 3 b3 (refuse 4 b4 (refuse 5 b5 (refuse 6 b6 (Ok (parts_at bytes (json_length bytes) (binary_length bytes))))))) (λ parts. Ok (both_parts parts))

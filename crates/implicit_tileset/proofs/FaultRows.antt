@@ -1,6 +1,6 @@
 -- The table of faults, computed on the bytes of small subtree files that break one row each.
 use Rattle.std.proofs.Common.{◌≡◌, ℕ, ◌-◌, ◌/◌, ◌%◌, List, [], ◌∷◌, ◌++◌, length, refl, codes, replicate}
-use Rattle.std.specs.Prelude.{Result, Ok, Err}
+use Rattle.std.specs.Prelude.{None, Result, Ok, Err}
 use Rattle.std.specs.Str.{is_utf8, chars}
 use Rattle.std.specs.Fmt.{digits}
 use Rattle.serde_json.proofs.OnLiterals.{serde_json_on_literals}
@@ -8,7 +8,7 @@ use Rattle.implicit_tiling.specs.declared.Scheme.TheVariants.{Quad}
 use Rattle.implicit_tiling.specs.Tile.{root}
 use Rattle.implicit_tiling.specs.Scene.{Layout}
 use Rattle.implicit_tiling.specs.Subtree.{Subtree}
-use Rattle.implicit_tileset.specs.SubtreeFile.{subtree_of}
+use Rattle.implicit_tileset.specs.FileOutcome.{subtree_found}
 
 padded : ℕ → List ℕ → List ℕ
 padded fill part = part ++ replicate ((8 - length part % 8) % 8) fill
@@ -44,7 +44,7 @@ binary : ℕ → List ℕ
 binary tiles = tiles ∷ replicate 7 0 ++ (240 ∷ 0 ∷ [])
 
 found : List ℕ → ℕ
-found bytes = fault (subtree_of layout root bytes)
+found bytes = fault (subtree_found (λ name. None) layout root bytes)
 
 two_views : found (pack (buffers ++ views ++ streams) (binary 3)) ≡ 0
 unfolding digits is_utf8 chars serde_json_on_literals padded number_bytes packed pack fault layout buffers views streams binary found
@@ -94,7 +94,7 @@ view_unknown : found (pack (buffers ++ views ++ codes "\"tileAvailability\":{\"b
 unfolding digits is_utf8 chars serde_json_on_literals padded number_bytes packed pack fault layout buffers views binary found
 view_unknown = refl
 
-external_buffer : found (pack (codes "{\"buffers\":[{\"byteLength\":10,\"uri\":\"b\"}]," ++ views ++ streams) (binary 3)) ≡ 13
+external_buffer : found (pack (codes "{\"buffers\":[{\"byteLength\":10,\"uri\":\"b\"}]," ++ views ++ streams) (binary 3)) ≡ 19
 unfolding digits is_utf8 chars serde_json_on_literals padded number_bytes packed pack fault layout views streams binary found
 external_buffer = refl
 
@@ -122,7 +122,7 @@ parent_missing = refl
 one_content : Layout
 one_content = record { scheme = Quad; subtree_levels = 2; levels = 2; subtree = codes "s"; contents = codes "c" ∷ [] }
 
-content_alone : fault (subtree_of one_content root (pack (codes "{\"buffers\":[{\"byteLength\":1}],\"bufferViews\":[{\"buffer\":0,\"byteOffset\":0,\"byteLength\":1}],\"childSubtreeAvailability\":{\"constant\":0},\"contentAvailability\":[{\"constant\":1}],\"tileAvailability\":{\"bitstream\":0}}") (15 ∷ []))) ≡ 18
+content_alone : fault (subtree_found (λ name. None) one_content root (pack (codes "{\"buffers\":[{\"byteLength\":1}],\"bufferViews\":[{\"buffer\":0,\"byteOffset\":0,\"byteLength\":1}],\"childSubtreeAvailability\":{\"constant\":0},\"contentAvailability\":[{\"constant\":1}],\"tileAvailability\":{\"bitstream\":0}}") (15 ∷ []))) ≡ 18
 unfolding digits is_utf8 chars serde_json_on_literals padded number_bytes packed pack fault one_content
 content_alone = refl
 

@@ -7,10 +7,9 @@ use Rattle.implicit_tiling.specs.Scene.{Layout}
 use Rattle.implicit_tiling.specs.Subtree.{has_orphan, has_content_alone}
 use Rattle.serde_json.specs.Find.{get}
 use Rattle.implicit_tileset.specs.Json.{json_of, object_of}
-use Rattle.implicit_tileset.specs.Record.{Availability, list_read, view_of, availability_at, content_of}
+use Rattle.implicit_tileset.specs.Record.{Availability, SubtreeRecord, list_read, buffer_of, view_of, availability_at, content_of, record_of, record_of_value}
 use Rattle.implicit_tileset.specs.SubtreeFile.{Used, and_then, parts_of, wanted_contents, used_of}
 use Rattle.implicit_tileset.specs.FileForms.{FileParts, is_json_form, file_parts, both_parts}
-use Rattle.implicit_tileset.specs.NamedBuffers.{NamedRecord, named_buffer_of, named_record_of, named_record_of_value, plain}
 use Rattle.implicit_tileset.specs.BufferFiles.{Find, used_names}
 use Rattle.implicit_tileset.specs.FileOutcome.{Sources, buffers_checked, bits_checked, subtree_at, sources_of, subtree_of_record, subtree_found, needed_names}
 use Rattle.implicit_tileset.specs.CutFiles.{IsBetween}
@@ -40,11 +39,11 @@ module _ (least most : ℕ) where
 wider : {A : Type 0} (least most low high : ℕ) (r : Result A ℕ) → low ≤ least → most ≤ high → IsBetween least most r → IsBetween low high r
 wider least most low high r h k is = record { within = λ n e. let b = is.within n e in (omega (arith, h, b.0), omega (arith, k, b.1)) }
 
-record_between : (part : List ℕ) → IsBetween 7 11 (named_record_of part)
+record_between : (part : List ℕ) → IsBetween 7 11 (record_of part)
 record_between part =
-    need_between 7 11 7 (json_of part) named_record_of_value (omega arith) (omega arith) (λ any.
+    need_between 7 11 7 (json_of part) record_of_value (omega arith) (omega arith) (λ any.
     need_between 7 11 8 (object_of any) _ (omega arith) (omega arith) (λ value.
-    need_between 7 11 9 (list_read named_buffer_of (get (codes "buffers") value)) _ (omega arith) (omega arith) (λ buffers.
+    need_between 7 11 9 (list_read buffer_of (get (codes "buffers") value)) _ (omega arith) (omega arith) (λ buffers.
     need_between 7 11 10 (list_read view_of (get (codes "bufferViews") value)) _ (omega arith) (omega arith) (λ views.
     need_between 7 11 11 (availability_at (codes "tileAvailability") value) _ (omega arith) (omega arith) (λ tiles.
     need_between 7 11 11 (list_read content_of (get (codes "contentAvailability") value)) _ (omega arith) (omega arith) (λ contents.
@@ -62,7 +61,7 @@ bits_between layout root s contents used =
     (refuse_between 7 20 17 (has_orphan (subtree_at layout root s contents)) _ (omega arith) (omega arith)
     (refuse_between 7 20 18 (has_content_alone (subtree_at layout root s contents)) (Ok (subtree_at layout root s contents)) (omega arith) (omega arith) (good_between 7 20 _)))))
 
-rows_between : (find : Find) (layout : Layout) (root : Tile) (binary : Option (List ℕ)) (r : NamedRecord) (contents : List Availability) (used : List Used)
+rows_between : (find : Find) (layout : Layout) (root : Tile) (binary : Option (List ℕ)) (r : SubtreeRecord) (contents : List Availability) (used : List Used)
     → IsBetween 7 20 (subtree_of_record find layout root binary r contents used)
 rows_between find layout root binary r contents used =
     let s = sources_of find layout root binary r in
@@ -73,18 +72,18 @@ rows_between find layout root binary r contents used =
 
 -- what follows once the parts are told
 pub after_parts : (find : Find) (layout : Layout) (root : Tile) (parts : FileParts)
-    → IsBetween 7 20 (and_then (named_record_of parts.json) (λ r. need 11 (wanted_contents layout (plain r)) (λ contents. subtree_of_record find layout root parts.binary r contents (used_of layout (plain r) contents))))
+    → IsBetween 7 20 (and_then (record_of parts.json) (λ r. need 11 (wanted_contents layout r) (λ contents. subtree_of_record find layout root parts.binary r contents (used_of layout r contents))))
 after_parts find layout root parts =
-    and_then_between 7 20 (named_record_of parts.json) _ (wider 7 11 7 20 (named_record_of parts.json) (omega arith) (omega arith) (record_between parts.json)) (λ r.
-    need_between 7 20 11 (wanted_contents layout (plain r)) _ (omega arith) (omega arith) (λ contents. rows_between find layout root parts.binary r contents (used_of layout (plain r) contents)))
+    and_then_between 7 20 (record_of parts.json) _ (wider 7 11 7 20 (record_of parts.json) (omega arith) (omega arith) (record_between parts.json)) (λ r.
+    need_between 7 20 11 (wanted_contents layout r) _ (omega arith) (omega arith) (λ contents. rows_between find layout root parts.binary r contents (used_of layout r contents)))
 
 names_after_parts : (layout : Layout) (root : Tile) (parts : FileParts)
-    → IsBetween 7 13 (and_then (named_record_of parts.json) (λ r. need 11 (wanted_contents layout (plain r)) (λ contents.
-    buffers_checked (sources_of (λ name. None) layout root parts.binary r) (used_of layout (plain r) contents) (Ok (used_names layout root r (used_of layout (plain r) contents))))))
+    → IsBetween 7 13 (and_then (record_of parts.json) (λ r. need 11 (wanted_contents layout r) (λ contents.
+    buffers_checked (sources_of (λ name. None) layout root parts.binary r) (used_of layout r contents) (Ok (used_names layout root r (used_of layout r contents))))))
 names_after_parts layout root parts =
-    and_then_between 7 13 (named_record_of parts.json) _ (wider 7 11 7 13 (named_record_of parts.json) (omega arith) (omega arith) (record_between parts.json)) (λ r.
-    need_between 7 13 11 (wanted_contents layout (plain r)) _ (omega arith) (omega arith) (λ contents.
-    buffers_between 13 (sources_of (λ name. None) layout root parts.binary r) (used_of layout (plain r) contents) (Ok (used_names layout root r (used_of layout (plain r) contents))) (omega arith) (good_between 7 13 _)))
+    and_then_between 7 13 (record_of parts.json) _ (wider 7 11 7 13 (record_of parts.json) (omega arith) (omega arith) (record_between parts.json)) (λ r.
+    need_between 7 13 11 (wanted_contents layout r) _ (omega arith) (omega arith) (λ contents.
+    buffers_between 13 (sources_of (λ name. None) layout root parts.binary r) (used_of layout r contents) (Ok (used_names layout root r (used_of layout r contents))) (omega arith) (good_between 7 13 _)))
 
 parts_between : (bytes : List ℕ) → IsBetween 3 6 (parts_of bytes)
 parts_between bytes =

@@ -7,8 +7,7 @@ use Rattle.std.specs.List.{list_any, slice_get}
 use Rattle.implicit_tiling.specs.Tile.{Tile}
 use Rattle.implicit_tiling.specs.Scene.{Layout}
 use Rattle.implicit_tiling.specs.Template.{filled}
-use Rattle.implicit_tileset.specs.Record.{BufferView, Availability, constant, stream}
-use Rattle.implicit_tileset.specs.NamedBuffers.{NamedBuffer, NamedRecord}
+use Rattle.implicit_tileset.specs.Record.{Buffer, BufferView, Availability, constant, stream, SubtreeRecord}
 use Rattle.implicit_tileset.specs.SubtreeFile.{Used, view_is}
 
 -- what stands under a name, if anything
@@ -29,19 +28,19 @@ abbrev pub buffer_name : Layout → Tile → List ℕ → List ℕ
 buffer_name layout root uri = root_folder layout root ++ uri
 
 -- the view of an availability and the buffer of that view, where there are such
-abbrev pub view_at : NamedRecord → Availability → Option BufferView
+abbrev pub view_at : SubtreeRecord → Availability → Option BufferView
 view_at r (constant b) = None
 view_at r (stream view count) = slice_get r.views view
 
-abbrev pub buffer_at : NamedRecord → Availability → Option NamedBuffer
+abbrev pub buffer_at : SubtreeRecord → Availability → Option Buffer
 buffer_at r a = option_and_then (λ v. slice_get r.buffers v.buffer) (view_at r a)
 
 -- some used view stands in the buffer of this number
-abbrev pub is_used_buffer : NamedRecord → List Used → ℕ → Bool
+abbrev pub is_used_buffer : SubtreeRecord → List Used → ℕ → Bool
 is_used_buffer r used n = list_any (λ u. view_is (λ v. v.buffer == n) (view_at r u.availability)) used
 
 -- the `uri` of that buffer, where it is used and has one
-abbrev pub used_uri : NamedRecord → List Used → ℕ → Option (List ℕ)
+abbrev pub used_uri : SubtreeRecord → List Used → ℕ → Option (List ℕ)
 used_uri r used n = if is_used_buffer r used n then option_and_then (λ b. b.uri) (slice_get r.buffers n) else None
 
 -- a list with one more, unless it is there
@@ -50,15 +49,15 @@ put_once uris None = uris
 put_once uris (Some uri) = if list_any (bytes_eq uri) uris then uris else uris ++ uri ∷ []
 
 -- the `uri`s of the used external buffers below a number, each once, in the order of the buffers
-abbrev pub uris_below : NamedRecord → List Used → ℕ → List (List ℕ)
+abbrev pub uris_below : SubtreeRecord → List Used → ℕ → List (List ℕ)
 uris_below r used zero = []
 uris_below r used (suc n) = put_once (uris_below r used n) (used_uri r used n)
 
-abbrev pub used_uris : NamedRecord → List Used → List (List ℕ)
+abbrev pub used_uris : SubtreeRecord → List Used → List (List ℕ)
 used_uris r used = uris_below r used (length r.buffers)
 
 -- The names of their files: one folder stands before all, so that two have one name exactly where they have one `uri`.
-abbrev pub used_names : Layout → Tile → NamedRecord → List Used → List (List ℕ)
+abbrev pub used_names : Layout → Tile → SubtreeRecord → List Used → List (List ℕ)
 used_names layout root r used = map (buffer_name layout root) (used_uris r used)
 
 -- how many bytes these names have together

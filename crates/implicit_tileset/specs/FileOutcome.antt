@@ -11,17 +11,16 @@ use Rattle.implicit_tiling.specs.Template.{filled}
 use Rattle.implicit_tiling.specs.Tile.{Tile}
 use Rattle.implicit_tiling.specs.Scene.{Layout, Outcome, bad}
 use Rattle.implicit_tiling.specs.Subtree.{Subtree}
-use Rattle.implicit_tileset.specs.Record.{Availability}
+use Rattle.implicit_tileset.specs.Record.{Buffer, Availability, SubtreeRecord, record_of}
 use Rattle.implicit_tileset.specs.SubtreeFile.{Used, Held, names_no_view, is_out, is_short, is_miscounted, raw_bits}
 use Rattle.implicit_tileset.specs.SubtreeFile.{wanted_contents, for_nodes, for_children, used_of, subtree_checked}
 use Rattle.implicit_tileset.specs.SubtreeFile.{and_then, outcome_from}
 use Rattle.implicit_tileset.specs.FileForms.{file_parts}
-use Rattle.implicit_tileset.specs.NamedBuffers.{NamedBuffer, NamedRecord, named_record_of, plain}
 use Rattle.implicit_tileset.specs.BufferFiles.{Find, buffer_name, buffer_at, used_names, bytes_together}
 
 -- a record, the bytes of a buffer that has no `uri`, where the file has such, and the bytes that a `uri` names
 pub record Sources : Type 0 where
-  pub parts : NamedRecord
+  pub parts : SubtreeRecord
   pub binary : Option (List ℕ)
   pub named : Find
 
@@ -36,16 +35,16 @@ or_nothing None = []
 or_nothing (Some bytes) = bytes
 
 -- the bytes of the buffer in which the view of an availability stands
-abbrev pub bytes_of : Sources → Option NamedBuffer → List ℕ
+abbrev pub bytes_of : Sources → Option Buffer → List ℕ
 bytes_of s None = []
 bytes_of s (Some buffer) = or_nothing (bytes_named s.named s.binary buffer.uri)
 
 -- the record beside the bytes that an availability is of
 abbrev pub held_at : Sources → Availability → Held
-held_at s a = record { parts = plain s.parts; binary = bytes_of s (buffer_at s.parts a) }
+held_at s a = record { parts = s.parts; binary = bytes_of s (buffer_at s.parts a) }
 
 -- 13: the buffer has neither a `uri` nor bytes in the file, which is in the JSON form
-abbrev pub has_no_bytes : Option (List ℕ) → Option NamedBuffer → Bool
+abbrev pub has_no_bytes : Option (List ℕ) → Option Buffer → Bool
 has_no_bytes binary None = false
 has_no_bytes binary (Some buffer) = is_none buffer.uri && is_none binary
 
@@ -90,11 +89,11 @@ bits_checked layout root s contents used =
 abbrev pub beside : Find → Layout → Tile → Find
 beside find layout root uri = find (buffer_name layout root uri)
 
-abbrev pub sources_of : Find → Layout → Tile → Option (List ℕ) → NamedRecord → Sources
+abbrev pub sources_of : Find → Layout → Tile → Option (List ℕ) → SubtreeRecord → Sources
 sources_of find layout root binary r = record { parts = r; binary = binary; named = beside find layout root }
 
 -- the subtree of a record, or the first of the faults 12, 13, 19, 20 and 14 to 18
-abbrev pub subtree_of_record : Find → Layout → Tile → Option (List ℕ) → NamedRecord → List Availability → List Used
+abbrev pub subtree_of_record : Find → Layout → Tile → Option (List ℕ) → SubtreeRecord → List Availability → List Used
     → Result Subtree ℕ
 subtree_of_record find layout root binary r contents used =
     let s = sources_of find layout root binary r in
@@ -107,17 +106,17 @@ subtree_of_record find layout root binary r contents used =
 abbrev pub subtree_found : Find → Layout → Tile → List ℕ → Result Subtree ℕ
 subtree_found find layout root bytes =
     and_then (file_parts bytes) (λ parts.
-    and_then (named_record_of parts.json) (λ r.
-    need 11 (wanted_contents layout (plain r)) (λ contents.
-    subtree_of_record find layout root parts.binary r contents (used_of layout (plain r) contents))))
+    and_then (record_of parts.json) (λ r.
+    need 11 (wanted_contents layout r) (λ contents.
+    subtree_of_record find layout root parts.binary r contents (used_of layout r contents))))
 
 -- The names of the files of the used external buffers, each once, or the first of the faults 3 to 13.
 abbrev pub needed_names : Layout → Tile → List ℕ → Result (List (List ℕ)) ℕ
 needed_names layout root bytes =
     and_then (file_parts bytes) (λ parts.
-    and_then (named_record_of parts.json) (λ r.
-    need 11 (wanted_contents layout (plain r)) (λ contents.
-    let used = used_of layout (plain r) contents in
+    and_then (record_of parts.json) (λ r.
+    need 11 (wanted_contents layout r) (λ contents.
+    let used = used_of layout r contents in
     buffers_checked (sources_of (λ name. None) layout root parts.binary r) used
     (Ok (used_names layout root r used)))))
 

@@ -7,10 +7,10 @@ use Rattle.serde_json.specs.Find.{get, as_array, as_number, as_u64, as_str}
 use Rattle.implicit_tiling.specs.Checks.{need}
 use Rattle.implicit_tileset.specs.Json.{json_of, object_of, number_at, list_of, each_read}
 
--- a buffer: its length, and whether it stands in a file of its own
+-- a buffer: its length, and the `uri` that names its file, where it stands in a file of its own
 pub record Buffer : Type 0 where
   pub length : ℕ
-  pub external : Bool
+  pub uri : Option (List ℕ)
 
 -- a buffer view: the number of its buffer, and its place and length there
 pub record BufferView : Type 0 where
@@ -44,14 +44,14 @@ abbrev pub list_read : {A : Type 0} → (Data → Option A) → Option Data → 
 list_read of None = Some []
 list_read of (Some value) = option_and_then (λ items. each_read of (list_of items)) (as_array value)
 
--- a `uri` is a text, and stands only in an external buffer
-abbrev pub external_from : Option Data → Option Bool
-external_from None = Some false
-external_from (Some value) = option_map (λ text. true) (as_str value)
+-- a `uri` may be absent, and is a text
+abbrev pub uri_from : Option Data → Option (Option (List ℕ))
+uri_from None = Some None
+uri_from (Some value) = option_map Some (as_str value)
 
 abbrev pub buffer_of : Data → Option Buffer
-buffer_of value = option_and_then (λ size. option_map (λ external. record { length = size; external = external })
-    (external_from (get (codes "uri") value))) (number_at (codes "byteLength") value)
+buffer_of value = option_and_then (λ size. option_map (λ uri. record { length = size; uri = uri })
+    (uri_from (get (codes "uri") value))) (number_at (codes "byteLength") value)
 
 abbrev pub view_of : Data → Option BufferView
 view_of value = option_and_then
@@ -104,6 +104,6 @@ record_of_value any =
     need 11 (availability_at (codes "childSubtreeAvailability") value) (λ child.
     Ok (record { buffers = buffers; views = views; tiles = tiles; contents = contents; child = child })))))))
 
--- the record of the JSON part: 7 it is no JSON
+-- the record of the JSON text: 7 it is no JSON
 abbrev pub record_of : List ℕ → Result SubtreeRecord ℕ
 record_of part = need 7 (json_of part) record_of_value

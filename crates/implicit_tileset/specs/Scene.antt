@@ -7,18 +7,14 @@ use Rattle.implicit_tiling.specs.Limits.{most_file_bytes}
 use Rattle.implicit_tiling.specs.Tile.{Tile}
 use Rattle.implicit_tiling.specs.Scene.{Layout, Scene}
 use Rattle.implicit_tileset.specs.Tileset.{layout_of}
-use Rattle.implicit_tileset.specs.SubtreeFile.{outcome_in}
+use Rattle.implicit_tileset.specs.FileOutcome.{outcome_among}
 
 -- the name of a subtree root's file
 abbrev pub subtree_name : Layout → Tile → List ℕ
 subtree_name layout r = filled layout.scheme layout.subtree r
 
 abbrev pub scene_of : Files → Layout → Scene
-scene_of files layout = record {
-  layout = layout;
-  outcome = λ r. outcome_in layout r
-      (file (subtree_name layout r) files);
-}
+scene_of files layout = record { layout = layout; outcome = outcome_among files layout }
 
 -- the layout of the files, or the first fault of `tileset.json`: 1 there is none, 2 it is too long, or one of 3 to 12
 abbrev pub layout_in : Files → Result Layout ℕ

@@ -1,19 +1,19 @@
--- What the bytes of a subtree file hold: the bits that it names, or its first fault (OGC 22-025r4, subtree binary
--- format, availability; the numbers and the order of the faults are this project's own).
+-- The parts of a subtree file in the binary form, and the rows of the table of faults that a record shows with the bytes
+-- of a buffer (OGC 22-025r4, subtree binary format, availability; the numbers and the order of the faults are this
+-- project's own).
 use Rattle.std.specs.Prelude.{ℕ, ◌+◌, ◌*◌, ◌||◌, ◌==◌, nat_lt, not, Bool, true, false, List, [], ◌∷◌, ◌++◌, length}
 use Rattle.std.specs.Prelude.{map, take, drop, count_by, codes, Option, Some, None, option_map, Result, Ok, Err}
 use Rattle.std.specs.Prelude.{if◌then◌else◌}
 use Rattle.std.specs.Str.{bytes_eq}
 use Rattle.std.specs.List.{slice_range, list_any, range_with_len, slice_get}
 use Rattle.std.specs.Int.{w32, w64, from_le_bytes}
-use Rattle.implicit_tiling.specs.Limits.{most_file_bytes}
 use Rattle.implicit_tiling.specs.Bits.{bit_of_bytes}
 use Rattle.implicit_tiling.specs.Checks.{need, refuse}
 use Rattle.implicit_tiling.specs.Tile.{Tile}
 use Rattle.implicit_tiling.specs.Scene.{Layout, Outcome, good, bad}
 use Rattle.implicit_tiling.specs.Subtree.{Subtree, node_count, child_count, has_orphan, has_content_alone, bits_of}
 use Rattle.implicit_tileset.specs.Record.{Buffer, BufferView, Availability, constant, stream, ContentPart}
-use Rattle.implicit_tileset.specs.Record.{well_formed, malformed, SubtreeRecord, record_of}
+use Rattle.implicit_tileset.specs.Record.{well_formed, malformed, SubtreeRecord}
 
 -- the numbers of the header, which are little endian: 24 bytes stand before the two parts
 abbrev pub header_bytes : ℕ
@@ -55,7 +55,7 @@ pub record Used : Type 0 where
   pub availability : Availability
   pub needed : ℕ
 
--- a record with the bytes of its buffer
+-- a record with the bytes of one of its buffers
 pub record Held : Type 0 where
   pub parts : SubtreeRecord
   pub binary : List ℕ
@@ -87,11 +87,7 @@ names_no_view h (constant b) = false
 names_no_view h (stream view count) = is_none (slice_get h.parts.views view) || view_is
     (λ v. is_none (buffer_named h v)) (slice_get h.parts.views view)
 
--- 13: the buffer is external
-abbrev pub is_external : Held → Availability → Bool
-is_external h a = view_is (λ v. buffer_is (λ b. b.external) (buffer_named h v)) (view_named h a)
-
--- 14: the view ends past its buffer, or the buffer past the binary part
+-- 14: the view ends past its buffer, or the buffer past its bytes
 abbrev pub is_out : Held → Availability → Bool
 is_out h a = view_is (λ v. buffer_is (λ b. nat_lt b.length (v.offset + v.length) || nat_lt (length h.binary) b.length)
     (buffer_named h v)) (view_named h a)
@@ -145,54 +141,16 @@ abbrev pub used_of : Layout → SubtreeRecord → List Availability → List Use
 used_of layout r contents = for_nodes layout r.tiles ∷ (map (for_nodes layout) contents
     ++ for_children layout r.child ∷ [])
 
--- the subtree of these bits
-abbrev pub subtree_from : Layout → Tile → Held → List Availability → Subtree
-subtree_from layout root h contents = record {
-  scheme = layout.scheme;
-  levels = layout.subtree_levels;
-  cut = layout.levels;
-  root = root;
-  tiles = raw_bits h (for_nodes layout h.parts.tiles);
-  contents = map (λ a. raw_bits h (for_nodes layout a)) contents;
-  child = raw_bits h (for_children layout h.parts.child);
-}
-
 -- a subtree that breaks neither rule between its bits
 abbrev pub subtree_checked : Subtree → Result Subtree ℕ
 subtree_checked s = refuse 17 (has_orphan s) (refuse 18 (has_content_alone s) (Ok s))
-
--- the subtree of a record with its bytes, or the first of the faults 12 to 18; each row is asked over all that are used
-abbrev pub subtree_held : Layout → Tile → Held → List Availability → List Used → Result Subtree ℕ
-subtree_held layout root h contents used =
-    refuse 12 (list_any (λ u. names_no_view h u.availability) used)
-    (refuse 13 (list_any (λ u. is_external h u.availability) used)
-    (refuse 14 (list_any (λ u. is_out h u.availability) used)
-    (refuse 15 (list_any (is_short h) used)
-    (refuse 16 (list_any (is_miscounted h) used)
-    (subtree_checked (subtree_from layout root h contents))))))
-
-abbrev pub subtree_recorded : Layout → Tile → List ℕ → SubtreeRecord → Result Subtree ℕ
-subtree_recorded layout root binary r =
-    need 11 (wanted_contents layout r)
-    (λ contents. subtree_held layout root (record { parts = r; binary = binary }) contents
-    (used_of layout r contents))
 
 -- what follows where a part could be read
 abbrev pub and_then : {A B : Type 0} → Result A ℕ → (A → Result B ℕ) → Result B ℕ
 and_then (Ok a) rest = rest a
 and_then (Err n) rest = Err n
 
--- the subtree of a root that the bytes of its file hold, or the number of their first fault of 3 to 18
-abbrev pub subtree_of : Layout → Tile → List ℕ → Result Subtree ℕ
-subtree_of layout root bytes = and_then (parts_of bytes)
-    (λ parts. and_then (record_of parts.json) (subtree_recorded layout root parts.binary))
-
--- what the file of a root holds: 1 there is none, 2 it is too long
+-- the outcome of a root by what its file holds
 abbrev pub outcome_from : Result Subtree ℕ → Outcome
 outcome_from (Ok subtree) = good (bits_of subtree)
 outcome_from (Err n) = bad n
-
-abbrev pub outcome_in : Layout → Tile → Option (List ℕ) → Outcome
-outcome_in layout root None = bad 1
-outcome_in layout root (Some bytes) = if nat_lt most_file_bytes (length bytes) then bad 2 else outcome_from
-    (subtree_of layout root bytes)

@@ -25,4 +25,4 @@ abbrev pub most_layout_fault : ℕ
 most_layout_fault = 12
 
 abbrev pub most_subtree_fault : ℕ
-most_subtree_fault = 18
+most_subtree_fault = 20

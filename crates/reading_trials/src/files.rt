@@ -1,10 +1,11 @@
-// What no clause says: with ample memory each row of the table of faults is met, and what is no fault is read. Of a
-// member that stands twice the last counts, so each row states what it has besides a good file.
+// What no clause says: with ample memory each row of the table of faults is met, what is no fault is read, and the names
+// of the files that are needed are given. Of a member that stands twice the last counts, so each row states what it has
+// besides a good file.
 ghost use Rattle.std.specs.Prelude.{◌≡◌};
 
 use std::alloc::{AllocError, Global};
 use std::test::Fail;
-use subtree_file::{DecodeFault, decode};
+use subtree_file::{BufferFile, DecodeFault, decode, needed_buffers};
 use tile_coords::Tile;
 use tileset_json::Layout;
 
@@ -19,6 +20,14 @@ const TWO: &str =
 // An octree of 7 levels in subtrees of 7.
 const OCTREE: &str =
     "{\"root\":{\"implicitTiling\":{\"subdivisionScheme\":\"OCTREE\",\"subtreeLevels\":7,\"availableLevels\":7,\"subtrees\":{\"uri\":\"s\"}}}}";
+
+// A quadtree of 4 levels in subtrees of 2, whose subtree files stand in a folder.
+const FOLDER: &str =
+    "{\"root\":{\"implicitTiling\":{\"subdivisionScheme\":\"QUADTREE\",\"subtreeLevels\":2,\"availableLevels\":4,\"subtrees\":{\"uri\":\"a/b/{level}.{x}.{y}\"}}}}";
+
+// The first view stands in the second buffer, the second view in the first.
+const CROSSED: &str =
+    "\"bufferViews\":[{\"buffer\":1,\"byteOffset\":0,\"byteLength\":1},{\"buffer\":0,\"byteOffset\":8,\"byteLength\":2}],\"tileAvailability\":{\"bitstream\":0},\"childSubtreeAvailability\":{\"bitstream\":1}";
 
 const VIEWS: &str =
     "{\"buffers\":[{\"byteLength\":10}],\"bufferViews\":[{\"buffer\":0,\"byteOffset\":0,\"byteLength\":1},{\"buffer\":0,\"byteOffset\":8,\"byteLength\":2}],\"tileAvailability\":{\"bitstream\":0},\"childSubtreeAvailability\":{\"bitstream\":1}";
@@ -58,7 +67,7 @@ fn number(alloc: Global, tileset: &str, bytes: &[u8]) -> Result<u64, Fail> {
     let Ok(layout) = Layout::read(alloc, tileset.as_bytes()) else {
         return Ok(100);
     };
-    match decode(alloc, &layout, Tile::root(), bytes) {
+    match decode(alloc, &layout, Tile::root(), bytes, &[BufferFile::Missing]) {
         Ok(_) => Ok(0),
         Err(DecodeFault::Fault(number)) => Ok(number),
         Err(DecodeFault::Memory) => Ok(101),
@@ -127,8 +136,8 @@ fn faults_of_a_record(rt: HostRuntime) -> Result<(), Fail> {
             3,
             12,
         ),
-        (",\"buffers\":[{\"byteLength\":10,\"uri\":\"b\"}]", 3, 13),
-        (",\"buffers\":[{\"byteLength\":9,\"uri\":\"b\"}]", 3, 13),
+        (",\"buffers\":[{\"byteLength\":10,\"uri\":\"b\"}]", 3, 19),
+        (",\"buffers\":[{\"byteLength\":9,\"uri\":\"b\"}]", 3, 19),
         (
             ",\"buffers\":[{\"byteLength\":10},{\"byteLength\":10}],\"bufferViews\":[{\"buffer\":0,\"byteOffset\":0,\"byteLength\":1},{\"buffer\":1,\"byteOffset\":8,\"byteLength\":2}]",
             3,
@@ -247,5 +256,110 @@ fn faults_of_contents_and_counts(rt: HostRuntime) -> Result<(), Fail> {
         let bytes = pack(alloc, MANY, besides, &many)?;
         assert!(rt; number(alloc, OCTREE, &bytes)? == wanted);
     }
+    Ok(())
+}
+
+// The number of a file's fault, 0 for none, and the names of the files that it needs, each before a semicolon.
+fn needed(alloc: Global, bytes: &[u8]) -> Result<(u64, String), Fail> {
+    let mut all = String::new(alloc);
+    let Ok(layout) = Layout::read(alloc, FOLDER.as_bytes()) else {
+        return Ok((100, all));
+    };
+    match needed_buffers(alloc, &layout, Tile::root(), bytes) {
+        Ok(names) => {
+            for name in &names {
+                all.push_str(name.as_str())?;
+                all.push_str(";")?;
+            }
+            Ok((0, all))
+        }
+        Err(DecodeFault::Fault(number)) => Ok((number, all)),
+        Err(DecodeFault::Memory) => Ok((101, all)),
+    }
+}
+
+#[test]
+fn files_that_are_needed(rt: HostRuntime) -> Result<(), Fail> {
+    let alloc = rt.alloc();
+    // what stands before the JSON text, its buffers, the fault, and the names
+    let rows: [(&str, &str, u64, &str); 10] = [
+        (
+            "",
+            "{\"byteLength\":10,\"uri\":\"0.bin\"},{\"byteLength\":10,\"uri\":\"1.bin\"}",
+            0,
+            "a/b/0.bin;a/b/1.bin;",
+        ),
+        (
+            "",
+            "{\"byteLength\":10,\"uri\":\"0.bin\"},{\"byteLength\":9,\"uri\":\"0.bin\"}",
+            0,
+            "a/b/0.bin;",
+        ),
+        (
+            "",
+            "{\"byteLength\":10,\"uri\":\"../x\"},{\"byteLength\":10,\"uri\":\"data:,x\"},{\"byteLength\":10,\"uri\":\"2.bin\"}",
+            0,
+            "a/b/../x;a/b/data:,x;",
+        ),
+        (
+            "",
+            "{\"byteLength\":10,\"uri\":\"\"},{\"byteLength\":10,\"uri\":\"/x\"}",
+            0,
+            "a/b/;a/b//x;",
+        ),
+        (
+            "",
+            "{\"byteLength\":10,\"uri\":\"0.bin\"},{\"byteLength\":10}",
+            13,
+            "",
+        ),
+        ("", "{\"byteLength\":10,\"uri\":\"0.bin\"}", 12, ""),
+        (
+            "",
+            "{\"byteLength\":10,\"uri\":\"0.bin\"},{\"byteLength\":10,\"uri\":7}",
+            9,
+            "",
+        ),
+        (
+            " \t\r\n",
+            "{\"byteLength\":10,\"uri\":\"0.bin\"},{\"byteLength\":10,\"uri\":\"1.bin\"}",
+            0,
+            "a/b/0.bin;a/b/1.bin;",
+        ),
+        (
+            "\u{feff}",
+            "{\"byteLength\":10,\"uri\":\"0.bin\"},{\"byteLength\":10,\"uri\":\"1.bin\"}",
+            4,
+            "",
+        ),
+        (
+            "[",
+            "{\"byteLength\":10,\"uri\":\"0.bin\"},{\"byteLength\":10,\"uri\":\"1.bin\"}",
+            4,
+            "",
+        ),
+    ];
+    for (front, buffers, fault, names) in rows {
+        let mut text = Vec::from_slice(alloc, front.as_bytes())?;
+        text.extend_from_slice(b"{\"buffers\":[")?;
+        text.extend_from_slice(buffers.as_bytes())?;
+        text.extend_from_slice(b"],")?;
+        text.extend_from_slice(CROSSED.as_bytes())?;
+        text.push(b'}')?;
+        let (number, all) = needed(alloc, &text)?;
+        assert!(rt; number == fault && all.as_str() == names);
+    }
+    // in the binary form a buffer without a name has the file's own bytes
+    let own = pack(alloc, VIEWS, "", &BINARY)?;
+    let (number, all) = needed(alloc, &own)?;
+    assert!(rt; number == 0 && all.is_empty());
+    let named = pack(
+        alloc,
+        VIEWS,
+        ",\"buffers\":[{\"byteLength\":10,\"uri\":\"b\"}]",
+        &BINARY,
+    )?;
+    let (number, all) = needed(alloc, &named)?;
+    assert!(rt; number == 0 && all.as_str() == "a/b/b;");
     Ok(())
 }

@@ -6,7 +6,8 @@ use Rattle.std.proofs.lemmas.List.Elements.{All-append}
 use Rattle.std.proofs.lemmas.Grind.{flat_map-append}
 use Rattle.implicit_tiling.specs.Tile.{Tile}
 use Rattle.implicit_tiling.specs.Region.{Region}
-use Rattle.implicit_tiling.specs.Scene.{Scene}
+use Rattle.implicit_tiling.specs.Files.{Files}
+use Rattle.implicit_tiling.specs.Scene.{Layout, Scene}
 use Rattle.implicit_tiling.specs.Code.{word_tile, tile_word}
 use Rattle.implicit_tiling.specs.Answer.{fault, Answer, answer, most_tiles}
 use Rattle.implicit_tiling.specs.Steps.{Pair, pair_of, segment, pair_fault, pairs, walk_roots, ended}
@@ -15,11 +16,12 @@ use Rattle.walk_laws.proofs.Lists.{map-map}
 use Rattle.walk_laws.proofs.Pairs.{pairs_go_down, pairs_above_come_first}
 use Rattle.walk_laws.proofs.PairAnswers.{answer_is_complete, answer_stops_at_a_fault, answer_is_cut}
 use Rattle.scene_ports.specs.Counts.{more_by}
-use Rattle.subtree_outcome.proofs.Counting.{more_at_most, then_at_most}
+use Rattle.subtree_outcome.specs.Fetched.{cost_of_all}
+use Rattle.subtree_outcome.proofs.Fetching.{costs_together}
 use Rattle.tile_coords.specs.declared.walk_end.WalkEnd.{WalkEnd}
 use Rattle.tile_coords.specs.declared.walk_end.WalkEnd.TheVariants.{Partial, Complete, TooMany, Fault}
 use Rattle.tile_word.specs.Answers.{IsAnswer}
-use Rattle.reference_walk.specs.Walks.{pair_words, word_pair, Walks, GoesOn}
+use Rattle.reference_walk.specs.Walks.{cost_of_pairs, pair_words, word_pair, Walks, GoesOn}
 use Rattle.tile_coords.specs.Ends.{end_seen, end_word}
 use Rattle.subtree_outcome.specs.Found.{EndsWithin}
 use Rattle.subtree_outcome.proofs.Found.{ends_at_root}
@@ -177,26 +179,36 @@ answer_at_level s region level words end some low over root is =
     ended_answer s region words end some over root
     (subst P (sym (pairs_above_come_first s region (level + 1) (omega (arith, low)))) (walks_no_more s region (pairs_above s region (level + 1)) rest [] words end over is))
 
--- the fetches of one level more: at most one for each of its pairs
-pub read_one_level : (s : Scene) (region : Region) (level : ℕ) (roots these : List ℕ) (begin mid now : ℕ) → these ≡ roots → map (word_tile s.layout.scheme) roots ≡ walk_roots s region level
-    → mid ≤ more_by (length (pairs_above s region level)) begin → now ≤ more_by (length these) mid → now ≤ more_by (length (pairs_above s region (level + 1))) begin
-read_one_level s region level roots these begin mid now same are so more =
+-- the tiles of some words in two parts
+pub in_two : (f : ℕ → Tile) (ws : List ℕ) (i : ℕ) → map f ws ≡ map f (take i ws) ++ map f (drop i ws)
+in_two f ws i = ap (map f) (sym (take-append-drop i ws)) ∙ map-append f (take i ws) (drop i ws)
+
+pub few_first : (f : ℕ → Tile) (ws : List ℕ) (i : ℕ) → length (map f (take i ws)) ≤ length ws
+few_first f ws i = omega (arith, length-map (take i ws) f, ap (length {A = ℕ}) (take-append-drop i ws), length-append (take i ws) (drop i ws))
+
+costs_on : (files : Files) (layout : Layout) (ps qs : List Pair) → cost_of_pairs files layout (ps ++ qs) ≡ cost_of_pairs files layout ps + cost_of_pairs files layout qs
+costs_on files layout ps qs =
+    ap (cost_of_all files layout) (map-append (λ (p : Pair). p.root) ps qs) ∙ costs_together files layout (map (λ (p : Pair). p.root) ps) (map (λ (p : Pair). p.root) qs)
+
+-- the fetches of one level more: what the roots of its pairs cost
+pub read_one_level : (files : Files) (s : Scene) (region : Region) (level : ℕ) (roots these : List ℕ) (begin mid now : ℕ) → these ≡ roots → map (word_tile s.layout.scheme) roots ≡ walk_roots s region level
+    → mid ≤ more_by (cost_of_pairs files s.layout (pairs_above s region level)) begin → now ≤ more_by (cost_of_all files s.layout (map (word_tile s.layout.scheme) these)) mid
+    → now ≤ more_by (cost_of_pairs files s.layout (pairs_above s region (level + 1))) begin
+read_one_level files s region level roots these begin mid now same are so more =
     let above = pairs_above s region level in
-    let count : length (pairs_above s region (level + 1)) ≡ length above + length these =
-    omega (
-      arith,
-      ap (length {A = Pair}) (pairs_go_down s region level ∙ ap (λ w. above ++ w) (sym (level_pairs_are s region level roots are))),
-      length-append above (map (word_pair s.layout.scheme level) roots),
-      length-map roots (word_pair s.layout.scheme level),
-      ap (length {A = ℕ}) same,
-    ) in
-    omega (arith, then_at_most (length these) (length above) begin mid now so more, ap (λ n. more_by n begin) count)
+    let own = map (word_pair s.layout.scheme level) roots in
+    let count : cost_of_pairs files s.layout (pairs_above s region (level + 1)) ≡ cost_of_pairs files s.layout above + cost_of_pairs files s.layout own =
+    ap (cost_of_pairs files s.layout) (pairs_go_down s region level ∙ ap (λ w. above ++ w) (sym (level_pairs_are s region level roots are))) ∙ costs_on files s.layout above own in
+    let costs : cost_of_pairs files s.layout own ≡ cost_of_all files s.layout (map (word_tile s.layout.scheme) these) =
+    ap (cost_of_all files s.layout) (map-map (λ (p : Pair). p.root) (word_pair s.layout.scheme level) roots ∙ ap (map (word_tile s.layout.scheme)) (sym same)) in
+    omega (arith, so, more, count, costs)
 
 -- and of all levels
-pub read_at_most : (s : Scene) (region : Region) (level begin now : ℕ) → level ≤ region.level + 1 → now ≤ more_by (length (pairs_above s region level)) begin
-    → now ≤ more_by (length (pairs s region)) begin
-read_at_most s region level begin now low so =
+pub read_at_most : (files : Files) (s : Scene) (region : Region) (level begin now : ℕ) → level ≤ region.level + 1 → now ≤ more_by (cost_of_pairs files s.layout (pairs_above s region level)) begin
+    → now ≤ more_by (cost_of_pairs files s.layout (pairs s region)) begin
+read_at_most files s region level begin now low so =
     let above = pairs_above s region level in
     let rest = flat_map (level_pairs s region) (range_with_len level (region.level + 1 - level)) in
-    let count = ap (length {A = Pair}) (pairs_above_come_first s region level low) in
-    omega (arith, so, more_at_most (length above) (length (pairs s region)) begin (omega (arith, count, length-append above rest)))
+    let count : cost_of_pairs files s.layout (pairs s region) ≡ cost_of_pairs files s.layout above + cost_of_pairs files s.layout rest =
+    ap (cost_of_pairs files s.layout) (pairs_above_come_first s region level low) ∙ costs_on files s.layout above rest in
+    omega (arith, so, count)

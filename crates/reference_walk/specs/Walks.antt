@@ -2,17 +2,23 @@
 use Rattle.std.specs.Prelude.{ℕ, ◌≡◌, ◌+◌, ◌%◌, ◌==◌, ◌<◌, ◌≤◌, Bool, true, false, List, [], ◌∷◌, ◌++◌, length, take}
 use Rattle.std.specs.Prelude.{map, Some, None}
 use Rattle.implicit_tiling.specs.declared.Scheme.{Scheme}
+use Rattle.implicit_tiling.specs.Files.{Files}
 use Rattle.implicit_tiling.specs.Tile.{Tile}
 use Rattle.implicit_tiling.specs.Region.{Region}
 use Rattle.implicit_tiling.specs.Scene.{Layout, Scene, fault_of}
 use Rattle.implicit_tiling.specs.Code.{tile_word, word_tile}
 use Rattle.implicit_tiling.specs.Answer.{is_on_walk, most_tiles, answer}
 use Rattle.implicit_tiling.specs.Steps.{Pair, pair_of, pair_fault, ended}
+use Rattle.subtree_outcome.specs.Fetched.{cost_of_all}
 use Rattle.walk_laws.specs.Children.{roots_below}
 use Rattle.walk_laws.specs.Pairs.{NoPairFaults, tiles_of_pairs}
 use Rattle.tile_coords.specs.declared.walk_end.WalkEnd.{WalkEnd}
 use Rattle.tile_coords.specs.declared.walk_end.WalkEnd.TheVariants.{Partial, Complete, TooMany, Fault}
 use Rattle.tile_coords.specs.Ends.{end_seen, end_word}
+
+-- what the roots of some pairs cost, each once for each of its pairs
+abbrev pub cost_of_pairs : Files → Layout → List Pair → ℕ
+cost_of_pairs files layout ps = cost_of_all files layout (map (λ p. p.root) ps)
 
 -- the words of the tiles of some pairs
 abbrev pub pair_words : Scene → Region → List Pair → List ℕ

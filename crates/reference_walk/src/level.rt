@@ -1,10 +1,11 @@
 // One level of a walk.
-ghost use Rattle.std.specs.Prelude.{◌≡◌, ◌≢◌, ◌+◌, ◌≤◌, ◌++◌, map, length, true, IfOk, IfSome, Ok, Err};
+ghost use Rattle.std.specs.Prelude.{◌≡◌, ◌≢◌, ◌+◌, ◌*◌, ◌≤◌, ◌++◌, map, length, true, IfOk, IfSome, Ok, Err};
 ghost use Rattle.std.specs.List.{All, flat_map};
 ghost use Rattle.implicit_tiling.specs.Code.{word_tile};
 ghost use Rattle.implicit_tiling.specs.Steps.{root_level};
 ghost use Rattle.implicit_tileset.specs.Scene.{scene_of};
 ghost use Rattle.scene_ports.specs.Counts.{Rose, more_by};
+ghost use Rattle.subtree_outcome.specs.Fetched.{cost_of_all, most_fetches};
 ghost use Rattle.subtree_outcome.specs.Found.{AreTilesOf, EndsWithin};
 ghost use Rattle.tile_word.specs.Roots.{AreRoots};
 ghost use Rattle.reference_walk.specs.Walks.{Walks, word_pair, next_roots, IsWalked};
@@ -46,7 +47,10 @@ pub(crate) fn walk_level<S: FileSource>(
     ensures failed { result ≡ Err WalkStop.ReadFault → Rose (S.faults files.old) (S.faults files.new) }
     ensures sure { result ≢ Err WalkStop.ReadFault → S.faults files.new ≡ S.faults files.old }
     ensures later { S.faults files.old ≤ S.faults files.new }
-    ensures fetched { IfOk result (λ end. S.fetches files.new ≤ more_by (length roots.now) (S.fetches files.old)) }
+    ensures fetched { IfSome (S.told files.old) (λ all. IfOk result (λ end. S.fetches files.new
+        ≤ more_by (cost_of_all all layout.now (map (word_tile layout.now.scheme) roots.now)) (S.fetches files.old))) }
+    ensures few { IfOk result (λ end. S.fetches files.new
+        ≤ more_by (most_fetches layout.now * length roots.now) (S.fetches files.old)) }
     ensures same { S.told files.new ≡ S.told files.old }
 {
     for root in roots {

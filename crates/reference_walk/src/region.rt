@@ -1,8 +1,9 @@
 // The walk of a region.
-ghost use Rattle.std.specs.Prelude.{◌≡◌, ◌≢◌, ◌≤◌, IfOk, IfErr, IfSome, Err, [], length};
+ghost use Rattle.std.specs.Prelude.{◌≡◌, ◌≢◌, ◌≤◌, IfOk, IfErr, IfSome, Err, [], map};
 ghost use Rattle.implicit_tiling.specs.Steps.{pairs};
 ghost use Rattle.implicit_tileset.specs.Scene.{scene_of};
 ghost use Rattle.scene_ports.specs.Counts.{Rose, more_by};
+ghost use Rattle.subtree_outcome.specs.Fetched.{cost_of_all};
 ghost use Rattle.subtree_outcome.specs.Found.{AreTilesOf, EndsWithin};
 ghost use Rattle.walk_laws.specs.Plans.{FitsLayout, IsRegionOf};
 ghost use Rattle.tile_word.specs.Answers.{IsAnswer};
@@ -40,7 +41,8 @@ pub fn fresh<S: FileSource>(
     ensures sure { result ≢ Err WalkStop.ReadFault → S.faults files.new ≡ S.faults files.old }
     ensures later { S.faults files.old ≤ S.faults files.new }
     ensures fetched { IfSome (S.told files.old) (λ all. IfOk result (λ end. S.fetches files.new
-        ≤ more_by (length (pairs (scene_of all layout.now) plan.now.region)) (S.fetches files.old))) }
+        ≤ more_by (cost_of_all all layout.now (map (λ p. p.root) (pairs (scene_of all layout.now) plan.now.region)))
+        (S.fetches files.old))) }
     ensures same { S.told files.new ≡ S.told files.old }
 {
     let mut found = Found::new(alloc);
@@ -69,7 +71,8 @@ fn walk<S: FileSource>(
     ensures sure { result ≢ Err WalkStop.ReadFault → S.faults files.new ≡ S.faults files.old }
     ensures later { S.faults files.old ≤ S.faults files.new }
     ensures fetched { IfSome (S.told files.old) (λ all. IfOk result (λ end. S.fetches files.new
-        ≤ more_by (length (pairs (scene_of all layout.now) region.now)) (S.fetches files.old))) }
+        ≤ more_by (cost_of_all all layout.now (map (λ p. p.root) (pairs (scene_of all layout.now) region.now)))
+        (S.fetches files.old))) }
     ensures same { S.told files.new ≡ S.told files.old }
 {
     let mut roots = first_roots(alloc, layout.scheme)?;

@@ -5,7 +5,8 @@ ghost use Rattle.implicit_tiling.specs.Code.{word_tile as word_tile_of};
 ghost use Rattle.implicit_tiling.specs.Subtree.{IsSubtree};
 ghost use Rattle.implicit_tiling.specs.Steps.{root_level};
 ghost use Rattle.implicit_tileset.specs.Scene.{scene_of};
-ghost use Rattle.scene_ports.specs.Counts.{Rose, one_more};
+ghost use Rattle.scene_ports.specs.Counts.{Rose};
+ghost use Rattle.subtree_outcome.specs.Fetched.{HasFetched};
 ghost use Rattle.subtree_outcome.specs.Found.{AreTilesOf, EndsWithin};
 ghost use Rattle.reference_walk.specs.Appended.{Appends};
 ghost use Rattle.tile_word.specs.Roots.{IsRootWord, AreRoots};
@@ -52,7 +53,8 @@ pub(crate) fn step<S: FileSource>(
     ensures failed { result ≡ Err WalkStop.ReadFault → Rose (S.faults files.old) (S.faults files.new) }
     ensures sure { result ≢ Err WalkStop.ReadFault → S.faults files.new ≡ S.faults files.old }
     ensures later { S.faults files.old ≤ S.faults files.new }
-    ensures fetched { IfOk result (λ end. S.fetches files.new ≡ one_more (S.fetches files.old)) }
+    ensures fetched { IfOk result (λ end. HasFetched layout.now (S.told files.old)
+        (word_tile_of layout.now.scheme root ∷ []) (S.fetches files.old) (S.fetches files.new)) }
     ensures same { S.told files.new ≡ S.told files.old }
 {
     let tile = root_tile(layout, root);

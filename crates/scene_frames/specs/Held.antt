@@ -5,7 +5,8 @@ use Rattle.implicit_tiling.specs.Files.{Files}
 use Rattle.implicit_tiling.specs.Scene.{Layout}
 use Rattle.frame_pool.specs.declared.frame.FrameState.TheVariants.{Empty}
 use Rattle.frame_pool.specs.Moves.{after_settle}
-use Rattle.scene_ports.specs.Counts.{one_more}
+use Rattle.implicit_tiling.specs.Code.{word_tile}
+use Rattle.scene_ports.specs.Counts.{more_by}
 use Rattle.shared_pool.specs.declared.entry.Entry.TheVariants.{Granted, Ended}
 use Rattle.shared_pool.specs.declared.note.Note.{Note}
 use Rattle.shared_pool.specs.declared.shared.Shared.{Shared}
@@ -16,6 +17,7 @@ use Rattle.shared_pool.specs.Seen.{Takes, Gives}
 use Rattle.subtree_outcome.specs.declared.outcome.Outcome.{Outcome}
 use Rattle.subtree_outcome.specs.declared.outcome.WalkStop.{WalkStop}
 use Rattle.subtree_outcome.specs.declared.outcome.WalkStop.TheVariants.{ReadFault as walk_fault, Memory as walk_memory}
+use Rattle.subtree_outcome.specs.Fetched.{HasFetched, most_fetches}
 use Rattle.subtree_outcome.specs.Outcomes.{IsOutcomeOf}
 use Rattle.scene_frames.specs.declared.held.HoldStop.{HoldStop}
 use Rattle.scene_frames.specs.declared.held.HoldStop.TheVariants.{ReadFault, Memory}
@@ -58,13 +60,15 @@ HasEnded number key tag last gave = (frame : ℕ) × Takes tag last (λ x.
     × (slice_get (after_settle frame None x.pool).census frame ≡ Some Empty))
 
 -- An outcome that is held, by the notes and the counts of fetches before and after: nothing was granted and fetched; or a
--- frame was granted to the pass for the root, and the root's file fetched once
-abbrev pub IsHeldBy : ℕ → ℕ → Note ℕ Outcome → Note ℕ Outcome → ℕ → ℕ → Type 0
-IsHeldBy number key n m before after = ((m.granted ≡ n.granted) × (after ≡ before))
-    ⊎ ((lost : Option ℕ) × (m.granted ≡ entered (Granted number key lost) n.granted) × (after ≡ one_more before))
+-- frame was granted to the pass for the root, and the root's outcome was fetched
+abbrev pub IsHeldBy : Layout → Option Files → ℕ → ℕ → Note ℕ Outcome → Note ℕ Outcome → ℕ → ℕ → Type 0
+IsHeldBy layout told number key n m before after = ((m.granted ≡ n.granted) × (after ≡ before))
+    ⊎ ((lost : Option ℕ) × (m.granted ≡ entered (Granted number key lost) n.granted)
+    × HasFetched layout told (word_tile layout.scheme key ∷ []) before after)
 
--- The same where none is held: a frame that was granted was loaded without an outcome, by at most one fetch
-abbrev pub IsStoppedBy : ℕ → ℕ → Note ℕ Outcome → Note ℕ Outcome → ℕ → ℕ → Type 0
-IsStoppedBy number key n m before after = ((m.granted ≡ n.granted) × (after ≡ before))
+-- The same where none is held: a frame that was granted was loaded without an outcome, by at most the most fetches of a
+-- root
+abbrev pub IsStoppedBy : Layout → ℕ → ℕ → Note ℕ Outcome → Note ℕ Outcome → ℕ → ℕ → Type 0
+IsStoppedBy layout number key n m before after = ((m.granted ≡ n.granted) × (after ≡ before))
     ⊎ ((lost : Option ℕ) × (m.granted ≡ entered (Ended number key) (entered (Granted number key lost) n.granted))
-    × (after ≤ one_more before))
+    × (after ≤ more_by (most_fetches layout) before))

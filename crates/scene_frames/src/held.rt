@@ -1,12 +1,13 @@
 // A pass that has the outcome of a root pinned.
-ghost use Rattle.std.specs.Prelude.{◌≡◌, ◌≢◌, ◌≤◌, nat_eq, IfOk, IfErr, Err};
+ghost use Rattle.std.specs.Prelude.{◌≡◌, ◌≢◌, ◌≤◌, ◌∷◌, [], nat_eq, IfOk, IfErr, Err};
 ghost use Rattle.std.specs.Arc.{arc_value};
-ghost use Rattle.implicit_tiling.specs.Code.{word_level};
-ghost use Rattle.scene_ports.specs.Counts.{Rose, one_more};
+ghost use Rattle.implicit_tiling.specs.Code.{word_level, word_tile};
+ghost use Rattle.scene_ports.specs.Counts.{Rose, more_by};
 ghost use Rattle.shared_pool.specs.Books.{entered};
 ghost use Rattle.shared_pool.specs.Fits.{IsIdle};
 ghost use Rattle.shared_pool.specs.declared.entry.Entry.TheVariants.{Ended};
 ghost use Rattle.shared_pool.specs.Seen.{HasMissed};
+ghost use Rattle.subtree_outcome.specs.Fetched.{HasFetched, most_fetches};
 ghost use Rattle.subtree_outcome.specs.Outcomes.{IsOutcomeOf};
 ghost use Rattle.tile_word.specs.Roots.{IsRootWord};
 ghost use Rattle.scene_frames.specs.Held.{IsOfScene, Loads, Pins, HasEnded, IsHeldBy, IsStoppedBy};
@@ -45,7 +46,7 @@ impl From<WalkStop> for HoldStop {
     }
 }
 
-/// Pins the outcome of the root of a word. Where no frame has it, this pass is granted one and reads the root's file; where
+/// Pins the outcome of the root of a word. Where no frame has it, this pass is granted one and reads the root's file, with the files of its buffers; where
 /// another pass reads it, this one waits for it. After an Err the pass pins and loads nothing, and a frame that it was
 /// granted is empty.
 pub fn hold<S: FileSource>(
@@ -61,10 +62,10 @@ pub fn hold<S: FileSource>(
     requires key { IsRootWord layout.now (word_level key) key }
     ensures outcome { IfOk result (λ found. IsOutcomeOf layout.now (S.told files.old) key (arc_value found)) }
     ensures pins { IfOk result (λ found. Pins key (arc_value found) pass.new.note) }
-    ensures held { IfOk result (λ found. IsHeldBy pass.old.number key pass.old.note pass.new.note
+    ensures held { IfOk result (λ found. IsHeldBy layout.now (S.told files.old) pass.old.number key pass.old.note pass.new.note
         (S.fetches files.old) (S.fetches files.new)) }
     ensures idle { IfErr result (λ stop. IsIdle pass.new.note) }
-    ensures stopped { IfErr result (λ stop. IsStoppedBy pass.old.number key pass.old.note pass.new.note
+    ensures stopped { IfErr result (λ stop. IsStoppedBy layout.now pass.old.number key pass.old.note pass.new.note
         (S.fetches files.old) (S.fetches files.new)) }
     ensures busy { result ≡ Err HoldStop.Busy → HasMissed nat_eq key pass.old.tag pass.old.note pass.new.last
         pass.new.gave pass.new.note }
@@ -99,11 +100,12 @@ fn load<S: FileSource>(
     ensures outcome { IfOk result (λ found. IsOutcomeOf layout.now (S.told files.old) key (arc_value found)) }
     ensures pins { IfOk result (λ found. Pins key (arc_value found) pass.new.note) }
     ensures granted { IfOk result (λ found. (pass.new.note.granted ≡ pass.old.note.granted)
-        × (S.fetches files.new ≡ one_more (S.fetches files.old))) }
+        × HasFetched layout.now (S.told files.old) (word_tile layout.now.scheme key ∷ [])
+        (S.fetches files.old) (S.fetches files.new)) }
     ensures idle { IfErr result (λ stop. IsIdle pass.new.note) }
     ensures ended { IfErr result (λ stop. (pass.new.note.granted ≡ entered (Ended pass.old.number key)
         pass.old.note.granted) × HasEnded pass.old.number key pass.old.tag pass.new.last pass.new.gave) }
-    ensures at_most_one { S.fetches files.new ≤ one_more (S.fetches files.old) }
+    ensures at_most { S.fetches files.new ≤ more_by (most_fetches layout.now) (S.fetches files.old) }
     ensures not_busy { result ≢ Err HoldStop.Busy }
     ensures busies { pass.new.note.busies ≡ pass.old.note.busies }
     ensures failed { result ≡ Err HoldStop.ReadFault → Rose (S.faults files.old) (S.faults files.new) }
@@ -124,7 +126,7 @@ fn load<S: FileSource>(
     }
 }
 
-// The outcome of a root's word by one fetch, in two shares.
+// The outcome of a root's word, in two shares.
 fn read<S: FileSource>(
     alloc: Global,
     files: &mut S,
@@ -137,8 +139,9 @@ fn read<S: FileSource>(
     ensures failed { result ≡ Err WalkStop.ReadFault → Rose (S.faults files.old) (S.faults files.new) }
     ensures sure { result ≢ Err WalkStop.ReadFault → S.faults files.new ≡ S.faults files.old }
     ensures later { S.faults files.old ≤ S.faults files.new }
-    ensures fetched { IfOk result (λ both. S.fetches files.new ≡ one_more (S.fetches files.old)) }
-    ensures at_most_one { S.fetches files.new ≤ one_more (S.fetches files.old) }
+    ensures fetched { IfOk result (λ both. HasFetched layout.now (S.told files.old)
+        (word_tile layout.now.scheme key ∷ []) (S.fetches files.old) (S.fetches files.new)) }
+    ensures at_most { S.fetches files.new ≤ more_by (most_fetches layout.now) (S.fetches files.old) }
     ensures told { S.told files.new ≡ S.told files.old }
 {
     let outcome = read_subtree(alloc, files, layout, root_tile(layout, key))?;

@@ -1,4 +1,3 @@
-pub mod Plain
 pub mod Contents
 pub mod Viewed
 pub mod Steps
@@ -6,3 +5,6 @@ pub mod Whole
 pub mod Sound
 pub mod Slashes
 pub mod Naming
+pub mod Fetching
+pub mod Opening
+pub mod Few

@@ -9,10 +9,9 @@ use denote.Ref.{Bor}
 use Rattle.implicit_tiling.specs.Checks.{need, refuse}
 use Rattle.implicit_tiling.specs.Tile.{Tile}
 use Rattle.implicit_tiling.specs.Scene.{Layout}
-use Rattle.implicit_tileset.specs.Record.{Availability, constant, stream}
+use Rattle.implicit_tileset.specs.Record.{Buffer, Availability, constant, stream, SubtreeRecord}
 use Rattle.implicit_tileset.specs.SubtreeFile.{Used, names_no_view, wanted_contents, used_of, and_then}
 use Rattle.implicit_tileset.specs.FileForms.{FileParts, file_parts}
-use Rattle.implicit_tileset.specs.NamedBuffers.{NamedBuffer, NamedRecord, named_record_of, plain}
 use Rattle.implicit_tileset.specs.BufferFiles.{Find, buffer_at, root_folder, used_names, used_uri, used_uris, put_once, uris_below}
 use Rattle.implicit_tileset.specs.FileOutcome.{has_no_bytes, held_at, is_nowhere, sources_of, buffers_checked, needed_names}
 use Rattle.subtree_file.specs.declared.fault.DecodeFault.{DecodeFault}
@@ -37,16 +36,16 @@ any_shown test (t ∷ texts) = ap (λ b. test t.now || b) (any_shown test texts)
 -- ---- the rows 12 and 13
 
 -- whether a view is named doesn't hang on any bytes
-no_view : (r : NamedRecord) (bytes : List ℕ) (a : Availability)
-    → names_no_view (record { parts = plain r; binary = bytes }) a ≡ names_no_view (record { parts = plain r; binary = [] }) a
+no_view : (r : SubtreeRecord) (bytes : List ℕ) (a : Availability)
+    → names_no_view (record { parts = r; binary = bytes }) a ≡ names_no_view (record { parts = r; binary = [] }) a
 no_view r bytes (constant b) = refl
 no_view r bytes (stream view count) = refl
 
-somewhere : (bytes : List ℕ) (buffer : Option NamedBuffer) → has_no_bytes (Some bytes) buffer ≡ false
+somewhere : (bytes : List ℕ) (buffer : Option Buffer) → has_no_bytes (Some bytes) buffer ≡ false
 somewhere bytes None = refl
 somewhere bytes (Some buffer) = and_right (is_none buffer.uri) false refl
 
-row_13 : (r : NamedRecord) (binary : Option (List ℕ)) (used : List Used)
+row_13 : (r : SubtreeRecord) (binary : Option (List ℕ)) (used : List Used)
     → list_any (λ u. has_no_bytes binary (buffer_at r u.availability)) used ≡ (not (is_some binary) && list_any (λ u. has_no_bytes None (buffer_at r u.availability)) used)
 row_13 r None used = refl
 row_13 r (Some bytes) used = any_none (λ u. has_no_bytes (Some bytes) (buffer_at r u.availability)) used (λ u. somewhere bytes (buffer_at r u.availability))
@@ -59,42 +58,23 @@ two_rows true b rest = refl
 two_rows false true rest = refl
 two_rows false false rest = refl
 
-pub buffers_by_rows : {B : Type 0} (find : Find) (layout : Layout) (root : Tile) (binary : Option (List ℕ)) (r : NamedRecord) (used : List Used) (rest : Result B ℕ)
+pub buffers_by_rows : {B : Type 0} (find : Find) (layout : Layout) (root : Tile) (binary : Option (List ℕ)) (r : SubtreeRecord) (used : List Used) (rest : Result B ℕ)
     → buffers_checked (sources_of find layout root binary r) used rest ≡ and_then (buffer_rows r (is_some binary) used) (λ done. rest)
 buffers_by_rows find layout root binary r used rest =
     let s = sources_of find layout root binary r in
-    let no = λ (u : Used). names_no_view (record { parts = plain r; binary = [] }) u.availability in
+    let no = λ (u : Used). names_no_view (record { parts = r; binary = [] }) u.availability in
     ap (λ b. refuse 12 b (refuse 13 (list_any (λ u. is_nowhere s u.availability) used) rest)) (any_same (λ u. names_no_view (held_at s u.availability) u.availability) no used (λ u. no_view r (held_at s u.availability).binary u.availability))
     ∙ ap (λ b. refuse 12 (list_any no used) (refuse 13 b rest)) (row_13 r binary used)
     ∙ two_rows (list_any no used) (not (is_some binary) && list_any (λ u. has_no_bytes None (buffer_at r u.availability)) used) rest
 
 -- ---- all rows
 
-by_contents : (layout : Layout) (root : Tile) (binary : Option (List ℕ)) (r : NamedRecord) (found : Option (List Availability))
-    → need 11 found (λ contents. buffers_checked (sources_of (λ name. None) layout root binary r) (used_of layout (plain r) contents) (Ok (used_names layout root r (used_of layout (plain r) contents))))
-    ≡ and_then (need 11 found (λ contents. Ok (used_of layout (plain r) contents))) (λ used. and_then (buffer_rows r (is_some binary) used) (λ done. Ok (used_names layout root r used)))
+pub by_contents : (layout : Layout) (root : Tile) (binary : Option (List ℕ)) (r : SubtreeRecord) (found : Option (List Availability))
+    → need 11 found (λ contents. buffers_checked (sources_of (λ name. None) layout root binary r) (used_of layout r contents) (Ok (used_names layout root r (used_of layout r contents))))
+    ≡ and_then (need 11 found (λ contents. Ok (used_of layout r contents))) (λ used. and_then (buffer_rows r (is_some binary) used) (λ done. Ok (used_names layout root r used)))
 by_contents layout root binary r None = refl
 by_contents layout root binary r (Some contents) =
-    buffers_by_rows (λ name. None) layout root binary r (used_of layout (plain r) contents) (Ok (used_names layout root r (used_of layout (plain r) contents)))
-
-abbrev pub after_record : Layout → Tile → Option (List ℕ) → NamedRecord → Result (List (List ℕ)) ℕ
-after_record layout root binary r = and_then (used_in layout (plain r)) (λ used. and_then (buffer_rows r (is_some binary) used) (λ done. Ok (used_names layout root r used)))
-
--- from the parts and the record on
-pub names_after : (layout : Layout) (root : Tile) (bytes : List ℕ) (parts : FileParts) (r : NamedRecord)
-    → file_parts bytes ≡ Ok parts → named_record_of parts.json ≡ Ok r → needed_names layout root bytes ≡ after_record layout root parts.binary r
-names_after layout root bytes parts r is_parts is_record =
-    let rest = λ (p : FileParts) (q : NamedRecord). need 11 (wanted_contents layout (plain q)) (λ contents. buffers_checked (sources_of (λ name. None) layout root p.binary q) (used_of layout (plain q) contents) (Ok (used_names layout root q (used_of layout (plain q) contents)))) in
-    ap (λ o. and_then o (λ p. and_then (named_record_of p.json) (rest p))) is_parts
-    ∙ ap (λ o. and_then o (rest parts)) is_record
-    ∙ by_contents layout root parts.binary r (wanted_contents layout (plain r))
-
-pub names_fault : (layout : Layout) (root : Tile) (bytes : List ℕ) (parts : FileParts) (n : ℕ)
-    → file_parts bytes ≡ Ok parts → named_record_of parts.json ≡ Err n → needed_names layout root bytes ≡ Err n
-names_fault layout root bytes parts n is_parts is_fault =
-    let rest = λ (p : FileParts) (q : NamedRecord). need 11 (wanted_contents layout (plain q)) (λ contents. buffers_checked (sources_of (λ name. None) layout root p.binary q) (used_of layout (plain q) contents) (Ok (used_names layout root q (used_of layout (plain q) contents)))) in
-    ap (λ o. and_then o (λ p. and_then (named_record_of p.json) (rest p))) is_parts
-    ∙ ap (λ o. and_then o (rest parts)) is_fault
+    buffers_by_rows (λ name. None) layout root binary r (used_of layout r contents) (Ok (used_names layout root r (used_of layout r contents)))
 
 -- ---- texts, each once
 
@@ -107,44 +87,16 @@ once_new texts t new =
     ∙ sym (ap (λ b. cond b (shown texts) (shown texts ++ t.now ∷ [])) (sym (any_shown (bytes_eq t.now) texts) ∙ new))
 
 -- the `uri` of one more buffer
-pub one_more : (r : NamedRecord) (used : List Used) (n : ℕ) (uris : List (List ℕ)) (found : Option (List ℕ))
+pub one_more : (r : SubtreeRecord) (used : List Used) (n : ℕ) (uris : List (List ℕ)) (found : Option (List ℕ))
     → uris ≡ uris_below r used n → found ≡ used_uri r used n → put_once uris found ≡ uris_below r used (n + 1)
 one_more r used n uris found so is = ap₂ put_once so is ∙ ap (uris_below r used) (sym (add-one n))
 
 -- ---- the answers
 
-is_some_shown : (o : Option (Bor (List ℕ))) → is_some (option_map (λ b. b.now) o) ≡ is_some o
+pub is_some_shown : (o : Option (Bor (List ℕ))) → is_some (option_map (λ b. b.now) o) ≡ is_some o
 is_some_shown None = refl
 is_some_shown (Some b) = refl
 
-map_shown : (folder : List ℕ) (texts : List (Bor (List ℕ))) → map (λ u. folder ++ u.now) texts ≡ map (λ uri. folder ++ uri) (shown texts)
+pub map_shown : (folder : List ℕ) (texts : List (Bor (List ℕ))) → map (λ u. folder ++ u.now) texts ≡ map (λ uri. folder ++ uri) (shown texts)
 map_shown folder [] = refl
 map_shown folder (t ∷ texts) = ap (λ l. (folder ++ t.now) ∷ l) (map_shown folder texts)
-
--- the parts, the record and what is used of it, as they were read
-pub record WasRead (layout : Layout) (bytes json : List ℕ) (binary : Option (Bor (List ℕ))) (r : NamedRecord) (used : List Used) : Type 0 where
-  pub parts : file_parts bytes ≡ Ok (record { json = json; binary = option_map (λ b. b.now) binary })
-  pub stated : named_record_of json ≡ Ok r
-  pub are : used_in layout (plain r) ≡ Ok used
-
-rows_left : (layout : Layout) (root : Tile) (bytes json : List ℕ) (binary : Option (Bor (List ℕ))) (r : NamedRecord) (used : List Used) (has : Bool) → WasRead layout bytes json binary r used → has ≡ is_some binary
-    → needed_names layout root bytes ≡ and_then (buffer_rows r has used) (λ done. Ok (used_names layout root r used))
-rows_left layout root bytes json binary r used has was same =
-    names_after layout root bytes (record { json = json; binary = option_map (λ b. b.now) binary }) r was.parts was.stated
-    ∙ ap (λ o. and_then o (λ us. and_then (buffer_rows r (is_some (option_map (λ b. b.now) binary)) us) (λ done. Ok (used_names layout root r us)))) was.are
-    ∙ ap (λ b. and_then (buffer_rows r b used) (λ done. Ok (used_names layout root r used))) (is_some_shown binary ∙ sym same)
-
-pub rows_err : (layout : Layout) (root : Tile) (bytes json : List ℕ) (binary : Option (Bor (List ℕ))) (r : NamedRecord) (used : List Used) (has : Bool) (fault : DecodeFault) → WasRead layout bytes json binary r used → has ≡ is_some binary
-    → Decodes (buffer_rows r has used) (Err fault) → DecodesNames (needed_names layout root bytes) (Err fault)
-rows_err layout root bytes json binary r used has Memory was same is = tt
-rows_err layout root bytes json binary r used has (Fault n) was same is = rows_left layout root bytes json binary r used has was same ∙ ap (λ o. and_then o (λ done. Ok (used_names layout root r used))) is
-
-pub names_ok : (layout : Layout) (root : Tile) (bytes json : List ℕ) (binary : Option (Bor (List ℕ))) (r : NamedRecord) (used : List Used) (has : Bool) (folder : List ℕ) (texts : List (Bor (List ℕ))) (names : List (List ℕ))
-    → WasRead layout bytes json binary r used → has ≡ is_some binary → buffer_rows r has used ≡ Ok tt
-    → folder ≡ root_folder layout root → shown texts ≡ used_uris r used → names ≡ map (λ u. folder ++ u.now) texts → needed_names layout root bytes ≡ Ok names
-names_ok layout root bytes json binary r used has folder texts names was same rows at uris are =
-    rows_left layout root bytes json binary r used has was same
-    ∙ ap (λ o. and_then o (λ done. Ok (used_names layout root r used))) rows
-    ∙ ap (λ l. Ok (map (λ uri. root_folder layout root ++ uri) l)) (sym uris)
-    ∙ ap (λ f. Ok (map (λ uri. f ++ uri) (shown texts))) (sym at)
-    ∙ ap Ok (sym (are ∙ map_shown folder texts))

@@ -9,58 +9,63 @@ use Rattle.implicit_tiling.specs.Tile.{Tile}
 use Rattle.implicit_tiling.specs.Scene.{Layout}
 use Rattle.implicit_tiling.specs.Subtree.{Subtree, IsOf, has_orphan, has_content_alone}
 use Rattle.implicit_tileset.specs.Record.{Availability}
-use Rattle.implicit_tileset.specs.SubtreeFile.{Held, names_no_view, is_external, is_out, is_short, is_miscounted, wanted_contents, raw_bits, for_nodes, used_of, subtree_from, subtree_held, subtree_recorded}
+use Rattle.implicit_tileset.specs.SubtreeFile.{Used, is_out, is_short, wanted_contents, for_nodes}
+use Rattle.implicit_tileset.specs.FileOutcome.{Sources, held_at, subtree_at, bits_checked}
 use Rattle.availability.specs.Rules.{KeepsRules}
 use Rattle.subtree_file.specs.declared.fault.DecodeFault.{DecodeFault}
-use Rattle.subtree_file.specs.Decoding.{Decodes}
+use Rattle.subtree_file.specs.Decoding.{Decodes, subtree_placed}
+use Rattle.subtree_file.proofs.Viewed.{miscounted, bits_at}
 use Rattle.subtree_file.proofs.Whole.{few_wanted}
 
-pub record IsSound (layout : Layout) (s : Subtree) : Type 0 where
+pub record IsSound (layout : Layout) (root : Tile) (s : Subtree) : Type 0 where
+  pub at_root : s.root ≡ root
   pub of_layout : IsOf layout s
   pub rules : KeepsRules s
 
-is_of : (layout : Layout) (root : Tile) (h : Held) (contents : List Availability) → root.level % layout.subtree_levels ≡ 0 → wanted_contents layout h.parts ≡ Some contents
-    → IsOf layout (subtree_from layout root h contents)
-is_of layout root h contents start wanted = record {
+is_of : (layout : Layout) (root : Tile) (s : Sources) (contents : List Availability) → root.level % layout.subtree_levels ≡ 0 → wanted_contents layout s.parts ≡ Some contents
+    → IsOf layout (subtree_at layout root s contents)
+is_of layout root s contents start wanted = record {
   same_scheme = refl;
   same_levels = refl;
   same_cut = refl;
-  contents_named = omega (arith, length-map contents (λ a. raw_bits h (for_nodes layout a)), few_wanted layout h.parts contents wanted);
+  contents_named = omega (arith, length-map contents (λ a. bits_at s (for_nodes layout a)), few_wanted layout s.parts contents wanted);
   root_at_start = start;
 }
 
-sound_held : (layout : Layout) (root : Tile) (h : Held) (contents : List Availability) (s : Subtree) → root.level % layout.subtree_levels ≡ 0
-    → wanted_contents layout h.parts ≡ Some contents → subtree_held layout root h contents (used_of layout h.parts contents) ≡ Ok s → IsSound layout s
-sound_held layout root h contents s start wanted is =
-    let used = used_of layout h.parts contents in
-    let made = subtree_from layout root h contents in
-    let r12 = refuse-good 12 (list_any (λ u. names_no_view h u.availability) used) _ s is in
-    let r13 = refuse-good 13 (list_any (λ u. is_external h u.availability) used) _ s r12.1 in
-    let r14 = refuse-good 14 (list_any (λ u. is_out h u.availability) used) _ s r13.1 in
-    let r15 = refuse-good 15 (list_any (is_short h) used) _ s r14.1 in
-    let r16 = refuse-good 16 (list_any (is_miscounted h) used) _ s r15.1 in
-    let r17 = refuse-good 17 (has_orphan made) _ s r16.1 in
-    let r18 = refuse-good 18 (has_content_alone made) (Ok made) s r17.1 in
-    let same : made ≡ s = cc in
-    subst (IsSound layout) same (record {
-      of_layout = is_of layout root h contents start wanted;
+sound_bits : (layout : Layout) (root : Tile) (s : Sources) (contents : List Availability) (used : List Used) (found : Subtree) → root.level % layout.subtree_levels ≡ 0
+    → wanted_contents layout s.parts ≡ Some contents → bits_checked layout root s contents used ≡ Ok found → IsSound layout root found
+sound_bits layout root s contents used found start wanted is =
+    let made = subtree_at layout root s contents in
+    let r14 = refuse-good 14 (list_any (λ u. is_out (held_at s u.availability) u.availability) used) _ found is in
+    let r15 = refuse-good 15 (list_any (λ u. is_short (held_at s u.availability) u) used) _ found r14.1 in
+    let r16 = refuse-good 16 (list_any (miscounted s) used) _ found r15.1 in
+    let r17 = refuse-good 17 (has_orphan made) _ found r16.1 in
+    let r18 = refuse-good 18 (has_content_alone made) (Ok made) found r17.1 in
+    let same : made ≡ found = cc in
+    subst (IsSound layout root) same (record {
+      at_root = refl;
+      of_layout = is_of layout root s contents start wanted;
       rules = record { no_orphan = r17.0; no_content_alone = r18.0 };
     })
 
-by_contents : (layout : Layout) (root : Tile) (h : Held) (s : Subtree) (found : Option (List Availability)) → root.level % layout.subtree_levels ≡ 0
-    → wanted_contents layout h.parts ≡ found → need 11 found (λ contents. subtree_held layout root h contents (used_of layout h.parts contents)) ≡ Ok s → IsSound layout s
-by_contents layout root h s None start wanted is = cc
-by_contents layout root h s (Some contents) start wanted is = sound_held layout root h contents s start wanted is
+by_contents : (layout : Layout) (root : Tile) (s : Sources) (used : List Used) (found : Subtree) (contents : Option (List Availability)) → root.level % layout.subtree_levels ≡ 0
+    → wanted_contents layout s.parts ≡ contents → need 11 contents (λ cs. bits_checked layout root s cs used) ≡ Ok found → IsSound layout root found
+by_contents layout root s used found None start wanted is = cc
+by_contents layout root s used found (Some contents) start wanted is = sound_bits layout root s contents used found start wanted is
 
-pub sound : (layout : Layout) (root : Tile) (h : Held) (result : Result Subtree DecodeFault) → root.level % layout.subtree_levels ≡ 0
-    → Decodes (subtree_recorded layout root h.binary h.parts) result → IfOk result (IsSound layout)
-sound layout root h (Ok s) start is = by_contents layout root h s (wanted_contents layout h.parts) start refl is
-sound layout root h (Err fault) start is = tt
+pub sound : (layout : Layout) (root : Tile) (s : Sources) (used : List Used) (result : Result Subtree DecodeFault) → root.level % layout.subtree_levels ≡ 0
+    → Decodes (subtree_placed layout root s used) result → IfOk result (IsSound layout root)
+sound layout root s used (Ok found) start is = by_contents layout root s used found (wanted_contents layout s.parts) start refl is
+sound layout root s used (Err fault) start is = tt
 
-pub of_layout : (layout : Layout) (result : Result Subtree DecodeFault) → IfOk result (IsSound layout) → IfOk result (IsOf layout)
-of_layout layout (Ok s) is = is.of_layout
-of_layout layout (Err fault) is = tt
+pub of_layout : (layout : Layout) (root : Tile) (result : Result Subtree DecodeFault) → IfOk result (IsSound layout root) → IfOk result (IsOf layout)
+of_layout layout root (Ok s) is = is.of_layout
+of_layout layout root (Err fault) is = tt
 
-pub rules : (layout : Layout) (result : Result Subtree DecodeFault) → IfOk result (IsSound layout) → IfOk result KeepsRules
-rules layout (Ok s) is = is.rules
-rules layout (Err fault) is = tt
+pub rules : (layout : Layout) (root : Tile) (result : Result Subtree DecodeFault) → IfOk result (IsSound layout root) → IfOk result KeepsRules
+rules layout root (Ok s) is = is.rules
+rules layout root (Err fault) is = tt
+
+pub at_root : (layout : Layout) (root : Tile) (result : Result Subtree DecodeFault) → IfOk result (IsSound layout root) → IfOk result (λ s. s.root ≡ root)
+at_root layout root (Ok s) is = is.at_root
+at_root layout root (Err fault) is = tt

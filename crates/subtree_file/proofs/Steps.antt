@@ -10,45 +10,43 @@ use Rattle.implicit_tiling.specs.Tile.{Tile}
 use Rattle.implicit_tiling.specs.Scene.{Layout}
 use Rattle.implicit_tiling.specs.Subtree.{Subtree, has_orphan, has_content_alone}
 use Rattle.implicit_tileset.specs.Record.{Availability, SubtreeRecord}
-use Rattle.implicit_tileset.specs.SubtreeFile.{Used, Held, names_no_view, is_external, is_out, is_short, is_miscounted, wanted_contents, used_of, subtree_from, subtree_checked, subtree_held, subtree_recorded, and_then}
-use Rattle.subtree_file.specs.declared.fault.DecodeFault.TheVariants.{Fault}
+use Rattle.implicit_tileset.specs.SubtreeFile.{Used, is_out, is_short, wanted_contents, used_of, subtree_checked, and_then}
+use Rattle.implicit_tileset.specs.FileOutcome.{Sources, held_at, subtree_at, bits_checked}
+use Rattle.subtree_file.specs.declared.fault.DecodeFault.{DecodeFault}
+use Rattle.subtree_file.specs.declared.fault.DecodeFault.TheVariants.{Fault, Memory}
 use Rattle.subtree_file.specs.Faults.{bits_fault_number, fault_of_rule}
-use Rattle.subtree_file.specs.Decoding.{Decodes, AreUsed, used_in, views_checked, subtree_counted}
+use Rattle.subtree_file.specs.Decoding.{Decodes, AreUsed, views_checked, subtree_counted, subtree_placed}
+use Rattle.subtree_file.proofs.Viewed.{miscounted}
 
--- ---- the rows from 11 on
+-- ---- the rows from 14 on
 
-abbrev pub steps : Layout → Tile → Held → Result Subtree ℕ
-steps layout root h = and_then (used_in layout h.parts) (λ used. and_then (views_checked h used) (λ done. and_then (subtree_counted layout root h) subtree_checked))
+abbrev two : Bool → Bool → Result (Unit {0}) ℕ
+two b14 b15 = refuse 14 b14 (refuse 15 b15 (Ok tt))
 
--- the first of the rows 12 to 15
-abbrev four : Bool → Bool → Bool → Bool → Result (Unit {0}) ℕ
-four b12 b13 b14 b15 = refuse 12 b12 (refuse 13 b13 (refuse 14 b14 (refuse 15 b15 (Ok tt))))
+rows : (b14 b15 b16 : Bool) (s : Subtree)
+    → refuse 14 b14 (refuse 15 b15 (refuse 16 b16 (subtree_checked s)))
+    ≡ and_then (two b14 b15) (λ done. and_then (refuse 16 b16 (Ok s)) subtree_checked)
+rows true b15 b16 s = refl
+rows false true b16 s = refl
+rows false false true s = refl
+rows false false false s = refl
 
-rows : (b12 b13 b14 b15 b16 : Bool) (s : Subtree)
-    → refuse 12 b12 (refuse 13 b13 (refuse 14 b14 (refuse 15 b15 (refuse 16 b16 (subtree_checked s)))))
-    ≡ and_then (four b12 b13 b14 b15) (λ done. and_then (refuse 16 b16 (Ok s)) subtree_checked)
-rows true b13 b14 b15 b16 s = refl
-rows false true b14 b15 b16 s = refl
-rows false false true b15 b16 s = refl
-rows false false false true b16 s = refl
-rows false false false false true s = refl
-rows false false false false false s = refl
+by_contents : (layout : Layout) (root : Tile) (s : Sources) (used : List Used) (found : Option (List Availability)) (are : AreUsed layout s.parts used) → Some are.contents ≡ found
+    → need 11 found (λ contents. bits_checked layout root s contents used)
+    ≡ and_then (views_checked s used) (λ done. and_then (need 11 found (λ contents. refuse 16 (list_any (miscounted s) (used_of layout s.parts contents)) (Ok (subtree_at layout root s contents)))) subtree_checked)
+by_contents layout root s used None are is = cc
+by_contents layout root s used (Some contents) are is =
+    let same : are.contents ≡ contents = cc in
+    let all : used ≡ used_of layout s.parts contents = are.are ∙ ap (used_of layout s.parts) same in
+    rows (list_any (λ u. is_out (held_at s u.availability) u.availability) used)
+    (list_any (λ u. is_short (held_at s u.availability) u) used)
+    (list_any (miscounted s) used)
+    (subtree_at layout root s contents)
+    ∙ ap (λ us. and_then (views_checked s used) (λ done. and_then (refuse 16 (list_any (miscounted s) us) (Ok (subtree_at layout root s contents))) subtree_checked)) all
 
-by_contents : (layout : Layout) (root : Tile) (h : Held) (found : Option (List Availability))
-    → need 11 found (λ contents. subtree_held layout root h contents (used_of layout h.parts contents))
-    ≡ and_then (need 11 found (λ contents. Ok (used_of layout h.parts contents))) (λ used. and_then (views_checked h used)
-    (λ done. and_then (need 11 found (λ contents. refuse 16 (list_any (is_miscounted h) (used_of layout h.parts contents)) (Ok (subtree_from layout root h contents)))) subtree_checked))
-by_contents layout root h None = refl
-by_contents layout root h (Some contents) = rows
-    (list_any (λ u. names_no_view h u.availability) (used_of layout h.parts contents))
-    (list_any (λ u. is_external h u.availability) (used_of layout h.parts contents))
-    (list_any (λ u. is_out h u.availability) (used_of layout h.parts contents))
-    (list_any (is_short h) (used_of layout h.parts contents))
-    (list_any (is_miscounted h) (used_of layout h.parts contents))
-    (subtree_from layout root h contents)
-
-pub recorded-in_steps : (layout : Layout) (root : Tile) (h : Held) → subtree_recorded layout root h.binary h.parts ≡ steps layout root h
-recorded-in_steps layout root h = by_contents layout root h (wanted_contents layout h.parts)
+pub placed-in_steps : (layout : Layout) (root : Tile) (s : Sources) (used : List Used) → AreUsed layout s.parts used
+    → subtree_placed layout root s used ≡ and_then (views_checked s used) (λ done. and_then (subtree_counted layout root s) subtree_checked)
+placed-in_steps layout root s used are = by_contents layout root s used (wanted_contents layout s.parts) are (sym are.wanted)
 
 -- ---- the rules between bits
 
@@ -60,17 +58,42 @@ rules_err false false s fault is = cc
 pub checked-err : (s : Subtree) (fault : RuleFault) → rule_fault s ≡ Err fault → subtree_checked s ≡ Err (bits_fault_number (fault_of_rule fault))
 checked-err s fault is = rules_err (has_orphan s) (has_content_alone s) s fault is
 
--- ---- the answer after a check of the rules
+-- ---- the answers of the steps
 
-pub broken : (layout : Layout) (root : Tile) (h : Held) (used : List Used) (s : Subtree) (fault : RuleFault)
-    → used_in layout h.parts ≡ Ok used → views_checked h used ≡ Ok tt → subtree_counted layout root h ≡ Ok s → rule_fault s ≡ Err fault
-    → Decodes (subtree_recorded layout root h.binary h.parts) (Err (Fault (bits_fault_number (fault_of_rule fault))))
-broken layout root h used s fault is_used is_placed is_counted is_broken =
-    recorded-in_steps layout root h
-    ∙ ap (λ r. and_then r (λ us. and_then (views_checked h us) (λ done. and_then (subtree_counted layout root h) subtree_checked))) is_used
-    ∙ ap (λ r. and_then r (λ done. and_then (subtree_counted layout root h) subtree_checked)) is_placed
+pub views_err : (layout : Layout) (root : Tile) (s : Sources) (used : List Used) (fault : DecodeFault) → AreUsed layout s.parts used
+    → Decodes (views_checked s used) (Err fault) → Decodes (subtree_placed layout root s used) (Err fault)
+views_err layout root s used Memory are is = tt
+views_err layout root s used (Fault n) are is = placed-in_steps layout root s used are ∙ ap (λ r. and_then r (λ done. and_then (subtree_counted layout root s) subtree_checked)) is
+
+pub counted_err : (layout : Layout) (root : Tile) (s : Sources) (used : List Used) (fault : DecodeFault) → AreUsed layout s.parts used
+    → views_checked s used ≡ Ok tt → Decodes (subtree_counted layout root s) (Err fault) → Decodes (subtree_placed layout root s used) (Err fault)
+counted_err layout root s used Memory are is_placed is = tt
+counted_err layout root s used (Fault n) are is_placed is =
+    placed-in_steps layout root s used are
+    ∙ ap (λ r. and_then r (λ done. and_then (subtree_counted layout root s) subtree_checked)) is_placed
+    ∙ ap (λ r. and_then r subtree_checked) is
+
+pub broken : (layout : Layout) (root : Tile) (s : Sources) (used : List Used) (found : Subtree) (fault : RuleFault) → AreUsed layout s.parts used
+    → views_checked s used ≡ Ok tt → subtree_counted layout root s ≡ Ok found → rule_fault found ≡ Err fault
+    → subtree_placed layout root s used ≡ Err (bits_fault_number (fault_of_rule fault))
+broken layout root s used found fault are is_placed is_counted is_broken =
+    placed-in_steps layout root s used are
+    ∙ ap (λ r. and_then r (λ done. and_then (subtree_counted layout root s) subtree_checked)) is_placed
     ∙ ap (λ r. and_then r subtree_checked) is_counted
-    ∙ checked-err s fault is_broken
+    ∙ checked-err found fault is_broken
+
+whole_rules : (orphan alone : Bool) (s : Subtree) → fault_from orphan alone ≡ Ok tt → refuse 17 orphan (refuse 18 alone (Ok s)) ≡ Ok s
+whole_rules true alone s is = cc
+whole_rules false true s is = cc
+whole_rules false false s is = refl
+
+pub unbroken : (layout : Layout) (root : Tile) (s : Sources) (used : List Used) (found : Subtree) → AreUsed layout s.parts used
+    → views_checked s used ≡ Ok tt → subtree_counted layout root s ≡ Ok found → rule_fault found ≡ Ok tt → subtree_placed layout root s used ≡ Ok found
+unbroken layout root s used found are is_placed is_counted is_whole =
+    placed-in_steps layout root s used are
+    ∙ ap (λ r. and_then r (λ done. and_then (subtree_counted layout root s) subtree_checked)) is_placed
+    ∙ ap (λ r. and_then r subtree_checked) is_counted
+    ∙ whole_rules (has_orphan found) (has_content_alone found) found is_whole
 
 -- ---- what is used
 

@@ -1,6 +1,6 @@
 -- The bits of a view, and of all that are used.
 use Rattle.std.proofs.Common.{◌≡◌, ℕ, zero, suc, ◌+◌, ◌*◌, ◌-◌, ◌<◌, ◌≤◌, Bool, true, false, List, [], ◌∷◌, ◌++◌, length, get_or, drop, map, replicate, refl, sym, ap, ◌∙◌, add-one, arith}
-use Rattle.std.specs.Prelude.{Ok, Err, ◌==◌}
+use Rattle.std.specs.Prelude.{Result, Ok, Err, ◌==◌}
 use Rattle.std.specs.List.{list_any, range_with_len, slice_range}
 use Rattle.std.proofs.lemmas.List.Folds.{list_any_at}
 use Rattle.std.proofs.lemmas.List.FromFn.{map-range_with_len_more}
@@ -9,7 +9,8 @@ use Rattle.implicit_tiling.specs.Bits.{bit_of_bytes}
 use Rattle.bitstream.proofs.Digits.{digit-take}
 use Rattle.implicit_tiling.specs.Checks.{refuse}
 use Rattle.implicit_tileset.specs.Record.{BufferView}
-use Rattle.implicit_tileset.specs.SubtreeFile.{Used, Held, is_miscounted, raw_bits}
+use Rattle.implicit_tileset.specs.SubtreeFile.{Used, is_miscounted, raw_bits}
+use Rattle.implicit_tileset.specs.FileOutcome.{Sources, held_at}
 use Rattle.subtree_file.specs.declared.fault.DecodeFault.{DecodeFault}
 use Rattle.subtree_file.specs.declared.fault.DecodeFault.TheVariants.{Fault, Memory}
 use Rattle.subtree_file.specs.Decoding.{Decodes, DecodesList, bits_counted, all_counted, bits_of_view}
@@ -42,11 +43,21 @@ pub refused : {B : Type 0} (number : ℕ) (test : Bool) (b : B) (n : ℕ) → re
 refused number true b n is = (refl, cc)
 refused number false b n is = cc
 
+-- whether the bits of one have another count, and these bits, beside the bytes of its buffer
+abbrev pub miscounted : Sources → Used → Bool
+miscounted s u = is_miscounted (held_at s u.availability) u
+
+abbrev pub bits_at : Sources → Used → List Bool
+bits_at s u = raw_bits (held_at s u.availability) u
+
+abbrev pub counted_at : Sources → Used → Result (List Bool) ℕ
+counted_at s u = bits_counted (held_at s u.availability) u
+
 -- one that can't be read
-pub all_counted-err : (h : Held) (used : List Used) (i : ℕ) (u : Used) (fault : DecodeFault) → i < length used → u ≡ get_or used i u
-    → Decodes (bits_counted h u) (Err fault) → DecodesList (all_counted h used) (Err fault)
-all_counted-err h used i u Memory within is one = tt
-all_counted-err h used i u (Fault n) within is one =
-    let row = refused 16 (is_miscounted h u) (raw_bits h u) n one in
-    let any : list_any (is_miscounted h) used ≡ true = list_any_at (is_miscounted h) used i u within (ap (is_miscounted h) (sym is) ∙ row.0) in
+pub all_counted-err : (s : Sources) (used : List Used) (i : ℕ) (u : Used) (fault : DecodeFault) → i < length used → u ≡ get_or used i u
+    → Decodes (bits_counted (held_at s u.availability) u) (Err fault) → DecodesList (all_counted s used) (Err fault)
+all_counted-err s used i u Memory within is one = tt
+all_counted-err s used i u (Fault n) within is one =
+    let row = refused 16 (miscounted s u) (bits_at s u) n one in
+    let any : list_any (miscounted s) used ≡ true = list_any_at (miscounted s) used i u within (ap (miscounted s) (sym is) ∙ row.0) in
     rw any (ap Err row.1)

@@ -8,13 +8,9 @@ use Rattle.implicit_tiling.specs.Tile.{Tile}
 use Rattle.implicit_tiling.specs.Scene.{Layout}
 use Rattle.implicit_tiling.specs.Subtree.{Subtree}
 use Rattle.implicit_tileset.specs.Record.{Availability, BufferView, SubtreeRecord}
-use Rattle.implicit_tileset.specs.SubtreeFile.{Used, Held, names_no_view, is_external, is_out, is_short}
+use Rattle.implicit_tileset.specs.SubtreeFile.{Used, Held, names_no_view, is_out, is_short}
 use Rattle.implicit_tileset.specs.SubtreeFile.{is_miscounted, raw_bits, view_bit, wanted_contents, used_of}
-use Rattle.implicit_tileset.specs.SubtreeFile.{subtree_from}
-use Rattle.implicit_tileset.specs.NamedBuffers.{NamedRecord, plain}
-use Rattle.subtree_json.specs.declared.fault.JsonFault.{JsonFault}
-use Rattle.subtree_json.specs.Faults.{fault_number}
-use Rattle.subtree_json.specs.Reading.{IsStated}
+use Rattle.implicit_tileset.specs.FileOutcome.{Sources, held_at, subtree_at, bits_checked}
 use Rattle.subtree_file.specs.declared.fault.DecodeFault.{DecodeFault}
 use Rattle.subtree_file.specs.declared.fault.DecodeFault.TheVariants.{Fault, Memory}
 
@@ -30,11 +26,6 @@ DecodesList stated (Ok v) = stated ≡ Ok v.items
 DecodesList stated (Err (Fault n)) = stated ≡ Err n
 DecodesList stated (Err Memory) = Unit {0}
 
--- the record of a JSON part that is stated, of which the names are left out, or its fault
-abbrev pub ReadsPlain : Result SubtreeRecord ℕ → Result NamedRecord JsonFault → Type 0
-ReadsPlain stated (Ok r) = stated ≡ Ok (plain r)
-ReadsPlain stated (Err fault) = IsStated stated (fault_number fault)
-
 -- a fault has a number of the table of faults of a subtree file
 abbrev pub IsNumbered : {A : Type 0} → Result A DecodeFault → Type 0
 IsNumbered (Ok a) = Unit {0}
@@ -45,16 +36,14 @@ IsNumbered (Err Memory) = Unit {0}
 abbrev pub used_in : Layout → SubtreeRecord → Result (List Used) ℕ
 used_in layout r = need 11 (wanted_contents layout r) (λ contents. Ok (used_of layout r contents))
 
--- the first of the faults 12 to 15, each asked over all that are used
-abbrev pub views_checked : Held → List Used → Result (Unit {0}) ℕ
-views_checked h used =
-    refuse 12 (list_any (λ u. names_no_view h u.availability) used)
-    (refuse 13 (list_any (λ u. is_external h u.availability) used)
-    (refuse 14 (list_any (λ u. is_out h u.availability) used)
-    (refuse 15 (list_any (is_short h) used)
-    (Ok tt))))
+-- the rows 14 and 15, each asked over all that are used
+abbrev pub views_checked : Sources → List Used → Result (Unit {0}) ℕ
+views_checked s used =
+    refuse 14 (list_any (λ u. is_out (held_at s u.availability) u.availability) used)
+    (refuse 15 (list_any (λ u. is_short (held_at s u.availability) u) used)
+    (Ok tt))
 
--- a used availability that has none of the faults 12 to 15
+-- a used availability that has none of the faults 12, 14 and 15
 pub record IsPlaced (h : Held) (u : Used) : Type 0 where
   pub named : names_no_view h u.availability ≡ false
   pub inside : is_out h u.availability ≡ false
@@ -64,9 +53,10 @@ pub record IsPlaced (h : Held) (u : Used) : Type 0 where
 abbrev pub bits_counted : Held → Used → Result (List Bool) ℕ
 bits_counted h u = refuse 16 (is_miscounted h u) (Ok (raw_bits h u))
 
--- the same of each in turn
-abbrev pub all_counted : Held → List Used → Result (List (List Bool)) ℕ
-all_counted h used = refuse 16 (list_any (is_miscounted h) used) (Ok (map (raw_bits h) used))
+-- the same of each in turn, beside the bytes of its buffer
+abbrev pub all_counted : Sources → List Used → Result (List (List Bool)) ℕ
+all_counted s used = refuse 16 (list_any (λ u. is_miscounted (held_at s u.availability) u) used)
+    (Ok (map (λ u. raw_bits (held_at s u.availability) u) used))
 
 -- the first bits of a view
 abbrev pub bits_of_view : List ℕ → BufferView → ℕ → List Bool
@@ -79,8 +69,13 @@ pub record AreUsed (layout : Layout) (r : SubtreeRecord) (used : List Used) : Ty
   pub are : used ≡ used_of layout r contents
 
 -- the subtree before its bits are compared with one another, or one of the faults 11 and 16
-abbrev pub subtree_counted : Layout → Tile → Held → Result Subtree ℕ
-subtree_counted layout root h =
-    need 11 (wanted_contents layout h.parts) (λ contents.
-    refuse 16 (list_any (is_miscounted h) (used_of layout h.parts contents))
-    (Ok (subtree_from layout root h contents)))
+abbrev pub subtree_counted : Layout → Tile → Sources → Result Subtree ℕ
+subtree_counted layout root s =
+    need 11 (wanted_contents layout s.parts) (λ contents.
+    refuse 16 (list_any (λ u. is_miscounted (held_at s u.availability) u) (used_of layout s.parts contents))
+    (Ok (subtree_at layout root s contents)))
+
+-- the subtree, or one of the faults 11 and 14 to 18
+abbrev pub subtree_placed : Layout → Tile → Sources → List Used → Result Subtree ℕ
+subtree_placed layout root s used =
+    need 11 (wanted_contents layout s.parts) (λ contents. bits_checked layout root s contents used)

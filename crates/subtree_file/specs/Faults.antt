@@ -2,8 +2,9 @@
 -- project's own).
 use Rattle.std.specs.Prelude.{ℕ, Option, Some, None}
 use Rattle.subtree_file.specs.declared.fault.BitsFault.{BitsFault}
-use Rattle.subtree_file.specs.declared.fault.BitsFault.TheVariants.{ViewUnknown, ExternalBuffer, ViewOut, BitsShort}
-use Rattle.subtree_file.specs.declared.fault.BitsFault.TheVariants.{CountWrong, ParentMissing, ContentWithoutTile}
+use Rattle.subtree_file.specs.declared.fault.BitsFault.TheVariants.{ViewUnknown, NoBuffer, BufferMissing, BuffersLong}
+use Rattle.subtree_file.specs.declared.fault.BitsFault.TheVariants.{ViewOut, BitsShort, CountWrong, ParentMissing}
+use Rattle.subtree_file.specs.declared.fault.BitsFault.TheVariants.{ContentWithoutTile}
 use Rattle.subtree_file.specs.declared.fault.DecodeFault.{DecodeFault}
 use Rattle.subtree_file.specs.declared.fault.DecodeFault.TheVariants.{Fault, Memory}
 use Rattle.availability.specs.declared.subtree.RuleFault.{RuleFault}
@@ -12,7 +13,9 @@ use Rattle.availability.specs.declared.subtree.RuleFault.TheVariants.{ContentWit
 
 abbrev pub bits_fault_number : BitsFault → ℕ
 bits_fault_number ViewUnknown = 12
-bits_fault_number ExternalBuffer = 13
+bits_fault_number NoBuffer = 13
+bits_fault_number BufferMissing = 19
+bits_fault_number BuffersLong = 20
 bits_fault_number ViewOut = 14
 bits_fault_number BitsShort = 15
 bits_fault_number CountWrong = 16

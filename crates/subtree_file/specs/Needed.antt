@@ -5,7 +5,7 @@ use Rattle.std.specs.List.{list_any}
 use denote.Ref.{Bor}
 use Rattle.implicit_tiling.specs.Checks.{refuse}
 use Rattle.implicit_tileset.specs.SubtreeFile.{Used, names_no_view}
-use Rattle.implicit_tileset.specs.NamedBuffers.{NamedRecord, plain}
+use Rattle.implicit_tileset.specs.Record.{SubtreeRecord}
 use Rattle.implicit_tileset.specs.BufferFiles.{buffer_at}
 use Rattle.implicit_tileset.specs.FileOutcome.{has_no_bytes}
 use Rattle.subtree_file.specs.declared.fault.DecodeFault.{DecodeFault}
@@ -22,9 +22,9 @@ abbrev pub shown : List (Bor (List ℕ)) → List (List ℕ)
 shown texts = map (λ t. t.now) texts
 
 -- the rows 12 and 13 of a record, in a file that has bytes of its own or not
-abbrev pub buffer_rows : NamedRecord → Bool → List Used → Result (Unit {0}) ℕ
+abbrev pub buffer_rows : SubtreeRecord → Bool → List Used → Result (Unit {0}) ℕ
 buffer_rows r has_bytes used =
-    refuse 12 (list_any (λ u. names_no_view (record { parts = plain r; binary = [] }) u.availability) used)
+    refuse 12 (list_any (λ u. names_no_view (record { parts = r; binary = [] }) u.availability) used)
     (refuse 13 (not has_bytes && list_any (λ u. has_no_bytes None (buffer_at r u.availability)) used)
     (Ok tt))
 

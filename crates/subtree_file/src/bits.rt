@@ -3,31 +3,46 @@ ghost use Rattle.std.specs.Prelude.{◌≡◌, ◌+◌, ◌*◌, ◌≤◌, IfOk
 ghost use Rattle.std.specs.List.{All};
 ghost use Rattle.bitstream.specs.Bits.{ones_of};
 ghost use Rattle.implicit_tileset.specs.SubtreeFile.{is_miscounted_as, raw_bits};
+ghost use Rattle.implicit_tileset.specs.FileOutcome.{held_at};
 ghost use Rattle.subtree_json.specs.Seen.{availability_seen};
+ghost use Rattle.subtree_file.specs.Buffers.{sources_seen};
 ghost use Rattle.subtree_file.specs.Decoding.{Decodes, DecodesList, IsPlaced, bits_counted, all_counted, bits_of_view};
 
 use crate::fault::{BitsFault, DecodeFault};
 use crate::held::Held;
+use crate::sources::Sources;
 use crate::used::Used;
 use bitstream::Bits;
 use std::alloc::{AllocError, Global};
 use subtree_json::{Availability, ViewPart};
 
 // The needed bits of each, in their order.
-pub(crate) fn read_all(alloc: Global, held: &Held, used: &[Used]) -> Result<Vec<Bits>, DecodeFault>
-    requires { All (IsPlaced held.now) used.now }
-    ensures { DecodesList (all_counted held.now used.now) result }
+pub(crate) fn read_all(
+    alloc: Global,
+    sources: &Sources,
+    used: &[Used],
+) -> Result<Vec<Bits>, DecodeFault>
+    requires { All (λ u. IsPlaced (held_at (sources_seen sources.now) u.availability) u) used.now }
+    ensures { DecodesList (all_counted (sources_seen sources.now) used.now) result }
 {
     let mut all = Vec::with_capacity(alloc, used.len())?;
     for one in used {
-        let bits = read_bits(alloc, held, one)?;
+        let bits = read_one(alloc, sources, one)?;
         all.push(bits)?;
     }
     Ok(all)
 }
 
+// The needed bits, of the bytes of the buffer in which their view stands.
+pub(crate) fn read_one(alloc: Global, sources: &Sources, used: &Used) -> Result<Bits, DecodeFault>
+    requires { IsPlaced (held_at (sources_seen sources.now) used.now.availability) used.now }
+    ensures { Decodes (bits_counted (held_at (sources_seen sources.now) used.now.availability) used.now) result }
+{
+    read_bits(alloc, &sources.held_at(&used.availability), used)
+}
+
 // The needed bits, which have the count that is stated beside them, if there is one.
-pub(crate) fn read_bits(alloc: Global, held: &Held, used: &Used) -> Result<Bits, DecodeFault>
+fn read_bits(alloc: Global, held: &Held, used: &Used) -> Result<Bits, DecodeFault>
     requires { IsPlaced held.now used.now }
     ensures { Decodes (bits_counted held.now used.now) result }
 {

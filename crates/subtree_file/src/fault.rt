@@ -7,15 +7,20 @@ use availability::RuleFault;
 use std::alloc::{AllocError, AllocFailed};
 use subtree_json::JsonFault;
 
-/// What is wrong with the availabilities that a file's record names, or with their bits. The first that holds of any
-/// that is used is answered, in this order (the numbers and the order are this project's own).
+/// What is wrong with the availabilities that a file's record names, with the files of their buffers, or with their
+/// bits. The first that holds of any that is used is answered, in this order (the numbers and the order are this
+/// project's own).
 #[derive(Clone, Copy, Debug, PartialEq, Eq)]
 pub enum BitsFault {
     /// A bitstream names a buffer view that isn't there, or one whose buffer isn't.
     ViewUnknown,
-    /// The buffer of a view is external: it has a `uri`.
-    ExternalBuffer,
-    /// A view ends past its buffer, or the buffer past the file's bytes for it.
+    /// The buffer of a view has no `uri`, in a file of the JSON form.
+    NoBuffer,
+    /// No file has the name of the external buffer of a view.
+    BufferMissing,
+    /// The files of the external buffers, each once, are together longer than a file may be.
+    BuffersLong,
+    /// A view ends past its buffer, or the buffer past the bytes that are there for it.
     ViewOut,
     /// A view has fewer bits than are needed.
     BitsShort,
@@ -28,13 +33,15 @@ pub enum BitsFault {
 }
 
 impl BitsFault {
-    /// The number in the table of faults of a subtree file, 12 to 18.
+    /// The number in the table of faults of a subtree file, 12 to 20.
     pub fn number(self) -> u64
         ensures { result ≡ bits_fault_number self }
     {
         match self {
             BitsFault::ViewUnknown => 12,
-            BitsFault::ExternalBuffer => 13,
+            BitsFault::NoBuffer => 13,
+            BitsFault::BufferMissing => 19,
+            BitsFault::BuffersLong => 20,
             BitsFault::ViewOut => 14,
             BitsFault::BitsShort => 15,
             BitsFault::CountWrong => 16,
@@ -47,7 +54,7 @@ impl BitsFault {
 /// Why a subtree file isn't decoded.
 #[derive(Clone, Copy, Debug, PartialEq, Eq)]
 pub enum DecodeFault {
-    /// The number of its first fault in the table of faults of a subtree file, 3 to 18.
+    /// The number of its first fault in the table of faults of a subtree file, 3 to 20.
     Fault(u64),
     /// There isn't enough memory.
     Memory,

@@ -1,35 +1,16 @@
-// A record beside the bytes of its internal buffer, and what can be wrong with the place that an availability names.
-ghost use Rattle.std.specs.Prelude.{◌≡◌};
+// A record beside the bytes of a buffer, and what can be wrong with the place that an availability names.
+ghost use Rattle.std.specs.Prelude.{◌≡◌, option_map};
 ghost use Rattle.std.specs.List.{list_any};
 ghost use Rattle.implicit_tileset.specs.SubtreeFile.{view_named, buffer_named, names_no_view as names_no_view_of};
-ghost use Rattle.implicit_tileset.specs.SubtreeFile.{is_external as is_external_of, is_out as is_out_of};
+ghost use Rattle.implicit_tileset.specs.SubtreeFile.{is_out as is_out_of};
 ghost use Rattle.implicit_tileset.specs.SubtreeFile.{is_short as is_short_of};
 ghost use Rattle.subtree_json.specs.Seen.{availability_seen};
-ghost use Rattle.subtree_file.specs.Decoding.{Decodes, views_checked};
 
-use crate::fault::{BitsFault, DecodeFault};
 use crate::used::Used;
 use std::marker::Model;
-use subtree_json::{Availability, SubtreeRecord, ViewPart};
+use subtree_json::{Availability, BufferPart, SubtreeRecord, ViewPart};
 
-// A buffer without the text of its name.
-#[derive(Clone, Copy)]
-pub(crate) struct PlainBuffer {
-    pub length: u64,
-    pub external: bool,
-}
-
-impl Model for PlainBuffer {
-    ghost use Rattle.implicit_tileset.specs.Record.{Buffer};
-
-    ghost Value = { Buffer };
-
-    ghost view = { λ b. record { length = b.length; external = b.external } };
-
-    ghost inverse = { λ v. record { length = v.length; external = v.external } };
-}
-
-// A record with the bytes of its internal buffer.
+// A record with the bytes of one of its buffers.
 #[derive(Drop)]
 pub(crate) struct Held<'f> {
     pub parts: &'f SubtreeRecord,
@@ -37,12 +18,11 @@ pub(crate) struct Held<'f> {
 }
 
 impl<'f> Model for Held<'f> {
-    ghost use Rattle.implicit_tileset.specs.NamedBuffers.{plain};
     ghost use Rattle.implicit_tileset.specs.SubtreeFile.{Held as held};
 
     ghost Value = { held };
 
-    ghost view = { λ h. record { parts = plain h.parts.now; binary = h.binary.now } };
+    ghost view = { λ h. record { parts = h.parts.now; binary = h.binary.now } };
 }
 
 impl Held<'_> {
@@ -58,15 +38,11 @@ impl Held<'_> {
     }
 
     // The buffer of a view, if it is there.
-    fn buffer_of(&self, view: &ViewPart) -> Option<PlainBuffer>
-        ensures { result ≡ buffer_named self.now view.now }
+    fn buffer_of(&self, view: &ViewPart) -> Option<&BufferPart>
+        ensures { option_map (λ b. b.now) result ≡ buffer_named self.now view.now }
     {
         let parts = self.parts;
-        let buffer = parts.buffers.get(view.buffer as usize)?;
-        Some(PlainBuffer {
-            length: buffer.length,
-            external: buffer.uri.is_some(),
-        })
+        parts.buffers.get(view.buffer as usize)
     }
 
     fn names_no_view(&self, used: &Used) -> bool
@@ -79,20 +55,8 @@ impl Held<'_> {
         }
     }
 
-    fn is_external(&self, used: &Used) -> bool
-        ensures { result ≡ is_external_of self.now used.now.availability }
-    {
-        let Some(view) = self.view_of(&used.availability) else {
-            return false;
-        };
-        match self.buffer_of(&view) {
-            Some(buffer) => buffer.external,
-            None => false,
-        }
-    }
-
     // Offset and length are each up to 2^64 - 1: their sum isn't made.
-    fn is_out(&self, used: &Used) -> bool
+    pub fn is_out(&self, used: &Used) -> bool
         ensures { result ≡ is_out_of self.now used.now.availability }
     {
         let Some(view) = self.view_of(&used.availability) else {
@@ -108,7 +72,7 @@ impl Held<'_> {
         }
     }
 
-    fn is_short(&self, used: &Used) -> bool
+    pub fn is_short(&self, used: &Used) -> bool
         ensures { result ≡ is_short_of self.now used.now }
     {
         match self.view_of(&used.availability) {
@@ -121,42 +85,5 @@ impl Held<'_> {
         ensures { result ≡ list_any (λ u. names_no_view_of self.now u.availability) used.now }
     {
         used.iter().any(|one| self.names_no_view(one))
-    }
-
-    fn any_is_external(&self, used: &[Used]) -> bool
-        ensures { result ≡ list_any (λ u. is_external_of self.now u.availability) used.now }
-    {
-        used.iter().any(|one| self.is_external(one))
-    }
-
-    fn any_is_out(&self, used: &[Used]) -> bool
-        ensures { result ≡ list_any (λ u. is_out_of self.now u.availability) used.now }
-    {
-        used.iter().any(|one| self.is_out(one))
-    }
-
-    fn any_is_short(&self, used: &[Used]) -> bool
-        ensures { result ≡ list_any (is_short_of self.now) used.now }
-    {
-        used.iter().any(|one| self.is_short(one))
-    }
-
-    // The first of the faults of views and buffers, each asked over all that are used.
-    pub fn check_views(&self, used: &[Used]) -> Result<(), DecodeFault>
-        ensures { Decodes (views_checked self.now used.now) result }
-    {
-        if self.any_names_no_view(used) {
-            return Err(DecodeFault::from(BitsFault::ViewUnknown));
-        }
-        if self.any_is_external(used) {
-            return Err(DecodeFault::from(BitsFault::ExternalBuffer));
-        }
-        if self.any_is_out(used) {
-            return Err(DecodeFault::from(BitsFault::ViewOut));
-        }
-        if self.any_is_short(used) {
-            return Err(DecodeFault::from(BitsFault::BitsShort));
-        }
-        Ok(())
     }
 }

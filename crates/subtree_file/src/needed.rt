@@ -6,43 +6,16 @@ ghost use Rattle.implicit_tileset.specs.SubtreeFile.{view_is};
 ghost use Rattle.implicit_tileset.specs.BufferFiles.{view_at as stated_view, buffer_at as stated_buffer, is_used_buffer};
 ghost use Rattle.implicit_tileset.specs.BufferFiles.{used_uri as stated_uri, used_uris as stated_uris};
 ghost use Rattle.implicit_tileset.specs.BufferFiles.{put_once as stated_once};
-ghost use Rattle.implicit_tileset.specs.FileOutcome.{has_no_bytes, needed_names};
+ghost use Rattle.implicit_tileset.specs.FileOutcome.{has_no_bytes};
 ghost use Rattle.subtree_json.specs.Seen.{availability_seen};
 ghost use Rattle.subtree_file.specs.Decoding.{Decodes};
-ghost use Rattle.subtree_file.specs.Needed.{DecodesNames, buffer_rows, shown};
+ghost use Rattle.subtree_file.specs.Needed.{buffer_rows, shown};
 
 use crate::fault::{BitsFault, DecodeFault};
-use crate::folder::root_folder;
 use crate::held::Held;
-use crate::parts::read_file_parts;
-use crate::used::{Used, used_of};
+use crate::used::Used;
 use std::alloc::{AllocError, Global};
-use subtree_json::{Availability, SubtreeRecord, ViewPart, read};
-use tile_coords::Tile;
-use tileset_json::Layout;
-
-/// The names of the files of the external buffers that a subtree file uses, each once, in the order of the buffers:
-/// the `uri` of each stands behind the folder of the subtree's file (subtree JSON format: buffers). Else the first
-/// fault of the file of 3 to 13.
-///
-/// It takes one pass over the JSON, and one over its buffers. After `Memory` nothing is kept.
-pub fn needed_buffers(
-    alloc: Global,
-    layout: &Layout,
-    root: Tile,
-    bytes: &[u8],
-) -> Result<Vec<String>, DecodeFault>
-    ensures { DecodesNames (needed_names layout.now root bytes.now) result }
-{
-    let parts = read_file_parts(bytes)?;
-    let stated = read(alloc, parts.json)?;
-    let used = used_of(alloc, layout, &stated)?;
-    check_buffers(&stated, parts.binary.is_some(), &used)?;
-    let folder = root_folder(alloc, layout, root)?;
-    let uris = used_uris(alloc, &stated, &used)?;
-    let names = names_of(alloc, folder.as_str(), &uris)?;
-    Ok(names)
-}
+use subtree_json::{Availability, SubtreeRecord, ViewPart};
 
 // The faults 12 and 13, which no other file has a part in, each asked over all that are used.
 pub(crate) fn check_buffers(
@@ -57,7 +30,7 @@ pub(crate) fn check_buffers(
         return Err(DecodeFault::from(BitsFault::ViewUnknown));
     }
     if !has_bytes && any_has_no_uri(parts, used) {
-        return Err(DecodeFault::from(BitsFault::ExternalBuffer));
+        return Err(DecodeFault::from(BitsFault::NoBuffer));
     }
     Ok(())
 }
@@ -81,7 +54,7 @@ fn has_no_uri(parts: &SubtreeRecord, used: &Used) -> bool
 }
 
 // The view that an availability names, if it names one that is there.
-fn view_at(parts: &SubtreeRecord, availability: &Availability) -> Option<ViewPart>
+pub(crate) fn view_at(parts: &SubtreeRecord, availability: &Availability) -> Option<ViewPart>
     ensures { result ≡ stated_view parts.now (availability_seen availability.now) }
 {
     match availability {
@@ -160,7 +133,11 @@ fn has_uri(uris: &[&str], uri: &str) -> bool
 }
 
 // Each behind the folder.
-fn names_of(alloc: Global, folder: &str, uris: &[&str]) -> Result<Vec<String>, AllocError>
+pub(crate) fn names_of(
+    alloc: Global,
+    folder: &str,
+    uris: &[&str],
+) -> Result<Vec<String>, AllocError>
     ensures { IfOk result (λ names. map string_bytes names.items ≡ map (λ u. folder.now ++ u.now) uris.now) }
 {
     let mut names = Vec::with_capacity(alloc, uris.len())?;

@@ -1,5 +1,4 @@
 // The availabilities of a record that are used.
-ghost use Rattle.implicit_tileset.specs.NamedBuffers.{plain};
 ghost use Rattle.subtree_file.specs.Decoding.{DecodesList, used_in};
 
 use crate::fault::DecodeFault;
@@ -33,7 +32,7 @@ pub(crate) fn used_of(
     layout: &Layout,
     parts: &SubtreeRecord,
 ) -> Result<Vec<Used>, DecodeFault>
-    ensures { DecodesList (used_in layout.now (plain parts.now)) result }
+    ensures { DecodesList (used_in layout.now parts.now) result }
 {
     let nodes = nodes_above(layout.scheme, layout.subtree_levels);
     let contents = layout.contents.len().min(parts.contents.len());

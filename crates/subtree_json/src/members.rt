@@ -1,7 +1,7 @@
 // One member of a list each, and availability objects.
 ghost use Rattle.std.specs.Prelude.{◌≡◌, IfOk, Option, option_and_then, option_map, string_bytes};
 ghost use Rattle.serde_json.specs.View.{view};
-ghost use Rattle.implicit_tileset.specs.NamedBuffers.{named_buffer_of as stated_buffer, uri_from};
+ghost use Rattle.implicit_tileset.specs.Record.{buffer_of as stated_buffer, uri_from};
 ghost use Rattle.implicit_tileset.specs.Record.{view_of as stated_view};
 ghost use Rattle.implicit_tileset.specs.Record.{availability_of as stated_availability, availability_at as stated_at};
 ghost use Rattle.implicit_tileset.specs.Record.{content_of as stated_content, constant_named, number_in, stream_from};

@@ -12,9 +12,9 @@ pub struct BufferPart {
 
 impl Model for BufferPart {
     ghost use Rattle.std.specs.Prelude.{option_map, string_bytes};
-    ghost use Rattle.implicit_tileset.specs.NamedBuffers.{NamedBuffer};
+    ghost use Rattle.implicit_tileset.specs.Record.{Buffer};
 
-    ghost Value = { NamedBuffer };
+    ghost Value = { Buffer };
 
     ghost view = { λ b. record { length = b.length; uri = option_map string_bytes b.uri } };
 }

@@ -1,6 +1,6 @@
 // Reading a record.
 ghost use Rattle.serde_json.specs.View.{view};
-ghost use Rattle.implicit_tileset.specs.NamedBuffers.{named_record_of, named_record_of_value};
+ghost use Rattle.implicit_tileset.specs.Record.{record_of, record_of_value};
 ghost use Rattle.subtree_json.specs.Reading.{ReadsPart};
 
 use crate::fault::JsonFault;
@@ -18,7 +18,7 @@ use std::alloc::Global;
 ///
 /// It takes memory in proportion to the JSON, and copies each `uri`. After `Memory` nothing is kept, and the same bytes can be read again.
 pub fn read(alloc: Global, bytes: &[u8]) -> Result<SubtreeRecord, JsonFault>
-    ensures { ReadsPart (named_record_of bytes.now) result }
+    ensures { ReadsPart (record_of bytes.now) result }
 {
     match read_value(alloc, bytes) {
         Ok(value) => read_record(alloc, &value),
@@ -29,7 +29,7 @@ pub fn read(alloc: Global, bytes: &[u8]) -> Result<SubtreeRecord, JsonFault>
 
 // The record that a value states.
 fn read_record(alloc: Global, value: &Value) -> Result<SubtreeRecord, JsonFault>
-    ensures { ReadsPart (named_record_of_value (view value.now)) result }
+    ensures { ReadsPart (record_of_value (view value.now)) result }
 {
     if !value.is_object() {
         return Err(JsonFault::NotObject);

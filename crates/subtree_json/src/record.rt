@@ -20,10 +20,10 @@ pub struct SubtreeRecord {
 
 impl Model for SubtreeRecord {
     ghost use Rattle.std.specs.Prelude.{map};
-    ghost use Rattle.implicit_tileset.specs.NamedBuffers.{NamedRecord};
+    ghost use Rattle.implicit_tileset.specs.Record.{SubtreeRecord as subtree_record};
     ghost use Rattle.subtree_json.specs.Seen.{availability_seen, content_seen};
 
-    ghost Value = { NamedRecord };
+    ghost Value = { subtree_record };
 
     ghost view = { λ r. record {
       buffers = r.buffers.items;

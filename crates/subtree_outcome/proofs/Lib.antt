@@ -3,3 +3,4 @@ pub mod Reading
 pub mod Counting
 pub mod Found
 pub mod Orphans
+pub mod Fetching

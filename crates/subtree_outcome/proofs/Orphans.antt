@@ -9,7 +9,9 @@ use Rattle.implicit_tiling.specs.Scene.{Layout, Bits, Outcome, good, bad}
 use Rattle.implicit_tiling.specs.Availability.{nodes_above}
 use Rattle.implicit_tiling.specs.Subtree.{Subtree, IsOf, has_orphan, some_node, bits_of}
 use Rattle.implicit_tileset.specs.Scene.{subtree_name, scene_of}
-use Rattle.implicit_tileset.specs.SubtreeFile.{subtree_of, outcome_from, outcome_in}
+use Rattle.implicit_tileset.specs.SubtreeFile.{outcome_from}
+use Rattle.implicit_tileset.specs.BufferFiles.{Find}
+use Rattle.implicit_tileset.specs.FileOutcome.{subtree_found, outcome_of_bytes}
 use Rattle.subtree_outcome.specs.Outcomes.{HasNoOrphans}
 use Rattle.subtree_outcome.proofs.Stating.{IsStated, stated}
 
@@ -37,21 +39,21 @@ none_in_both layout made st is of same =
     ∙ ap (orphan_among made.scheme made.levels made.cut made.root.level) (sym bits)
     ∙ sym (is_among made) ∙ is.no_orphan
 
-by_result : (layout : Layout) (st : Subtree) (bytes : List ℕ) (r : Result Subtree ℕ) → IsOf layout st → subtree_of layout st.root bytes ≡ r
+by_result : (find : Find) (layout : Layout) (st : Subtree) (bytes : List ℕ) (r : Result Subtree ℕ) → IsOf layout st → subtree_found find layout st.root bytes ≡ r
     → outcome_from r ≡ good (bits_of st) → has_orphan st ≡ false
-by_result layout st bytes (Ok made) of is same =
+by_result find layout st bytes (Ok made) of is same =
     let bits : bits_of made ≡ bits_of st = cc in
-    none_in_both layout made st (stated layout st.root bytes made is) of bits
-by_result layout st bytes (Err n) of is same = cc
+    none_in_both layout made st (stated find layout st.root bytes made is) of bits
+by_result find layout st bytes (Err n) of is same = cc
 
-by_length : (layout : Layout) (st : Subtree) (bytes : List ℕ) (long : Bool) → IsOf layout st
-    → (if long then bad 2 else outcome_from (subtree_of layout st.root bytes)) ≡ good (bits_of st) → has_orphan st ≡ false
-by_length layout st bytes true of same = cc
-by_length layout st bytes false of same = by_result layout st bytes (subtree_of layout st.root bytes) of refl same
+by_length : (find : Find) (layout : Layout) (st : Subtree) (bytes : List ℕ) (long : Bool) → IsOf layout st
+    → (if long then bad 2 else outcome_from (subtree_found find layout st.root bytes)) ≡ good (bits_of st) → has_orphan st ≡ false
+by_length find layout st bytes true of same = cc
+by_length find layout st bytes false of same = by_result find layout st bytes (subtree_found find layout st.root bytes) of refl same
 
-by_file : (layout : Layout) (st : Subtree) (found : Option (List ℕ)) → IsOf layout st → outcome_in layout st.root found ≡ good (bits_of st) → has_orphan st ≡ false
-by_file layout st None of same = cc
-by_file layout st (Some bytes) of same = by_length layout st bytes (nat_lt most_file_bytes (length bytes)) of same
+by_file : (find : Find) (layout : Layout) (st : Subtree) (found : Option (List ℕ)) → IsOf layout st → outcome_of_bytes find layout st.root found ≡ good (bits_of st) → has_orphan st ≡ false
+by_file find layout st None of same = cc
+by_file find layout st (Some bytes) of same = by_length find layout st bytes (nat_lt most_file_bytes (length bytes)) of same
 
 pub files_have_none : (all : Files) (layout : Layout) → HasNoOrphans (scene_of all layout)
-files_have_none all layout = λ st of same. by_file layout st (file (subtree_name layout st.root) all) of same
+files_have_none all layout = λ st of same. by_file (λ name. file name all) layout st (file (subtree_name layout st.root) all) of same

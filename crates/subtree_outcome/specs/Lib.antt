@@ -1,3 +1,5 @@
 pub mod Outcomes
 pub mod Found
 pub mod Laws
+pub mod Fetched
+pub mod Reading

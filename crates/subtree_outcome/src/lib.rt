@@ -1,6 +1,8 @@
-//! What the file of a subtree root holds: the subtree, or the file's first fault, read by one fetch. It knows no walk.
+//! What the file of a subtree root holds with the files of its buffers: the subtree, or the first fault. It knows no
+//! walk.
 #![tactic(auto)]
 
+mod buffers;
 mod outcome;
 pub mod outcome_laws;
 mod root;

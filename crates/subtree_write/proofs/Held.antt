@@ -1,12 +1,14 @@
 -- The bits that a canonical record names in its bytes.
-use Rattle.std.proofs.Common.{◌≡◌, ◌∙◌, ℕ, ◌+◌, ◌-◌, ◌*◌, ◌≤◌, ◌&&◌, ◌||◌, ◌==◌, Bool, true, false, not, nat_lt, cond, List, [], ◌∷◌, ◌++◌, length, map, take, drop, replicate, Some, append_assoc, length-append, ◌<◌, refl, sym, ap, ap₂, subst, arith}
+use Rattle.std.proofs.Common.{◌≡◌, ◌∙◌, ℕ, ◌+◌, ◌-◌, ◌*◌, ◌≤◌, ◌&&◌, ◌||◌, ◌==◌, Bool, true, false, not, nat_lt, cond, List, [], ◌∷◌, ◌++◌, length, map, take, drop, replicate, Option, Some, None, option_and_then, append_assoc, length-append, ◌<◌, refl, sym, ap, ap₂, subst, arith}
 use Rattle.std.specs.List.{range_with_len, slice_get, slice_range, list_any}
 use Rattle.std.proofs.Math.Seq.{take-append_seam, drop-append_seam}
 use Rattle.std.proofs.lemmas.Bool.{le-ltb, eq-eqb, or_from}
 use Rattle.std.proofs.lemmas.List.{ext_get_or, get_or-replicate, length-replicate}
 use Rattle.std.proofs.lemmas.List.FromFn.{length-map-range_with_len, get_or-map-range_with_len}
 use Rattle.implicit_tileset.specs.Record.{Buffer, BufferView, Availability, constant, stream, ContentPart}
-use Rattle.implicit_tileset.specs.SubtreeFile.{Used, Held, buffer_named, view_is, buffer_is, is_none, names_no_view, is_external, is_out, is_short, view_bit, raw_bits, is_miscounted}
+use Rattle.implicit_tileset.specs.SubtreeFile.{Used, Held, buffer_named, view_is, buffer_is, is_none, names_no_view, is_out, is_short, view_bit, raw_bits, is_miscounted}
+use Rattle.implicit_tileset.specs.BufferFiles.{Find}
+use Rattle.implicit_tileset.specs.FileOutcome.{Sources, bytes_named, or_nothing, bytes_of, held_at}
 use Rattle.implicit_tiling.specs.Bits.{bit_of_bytes}
 use Rattle.bitstream.specs.Bytes.{bytes_filled, bytes_of_bits}
 use Rattle.bitstream.proofs.Bytes.{length-bytes_of_bits, bits_of_bytes-bytes_of_bits}
@@ -21,7 +23,6 @@ used a n = record { availability = a; needed = n }
 -- an availability names these bits, and breaks no row
 pub record Names (h : Held) (a : Availability) (bits : List Bool) : Type 0 where
   pub viewed : names_no_view h a ≡ false
-  pub internal : is_external h a ≡ false
   pub inside : is_out h a ≡ false
   pub enough : is_short h (used a (length bits)) ≡ false
   pub counted : is_miscounted h (used a (length bits)) ≡ false
@@ -52,7 +53,6 @@ constant_bits b n =
 constant_names : (h : Held) (bits : List Bool) → is_mixed bits ≡ false → Names h (constant (has_one bits)) bits
 constant_names h bits e = record {
   viewed = refl;
-  internal = refl;
   inside = refl;
   enough = refl;
   counted = refl;
@@ -65,7 +65,7 @@ constant_names h bits e = record {
 record Views (h : Held) (number : ℕ) (view : BufferView) (buffer : Buffer) (bits : List Bool) : Type 0 where
   view_is_there : slice_get h.parts.views number ≡ Some view
   buffer_is_there : slice_get h.parts.buffers view.buffer ≡ Some buffer
-  own : buffer.external ≡ false
+  own : buffer.uri ≡ None
   fits : view.offset + view.length ≤ buffer.length
   held : buffer.length ≤ length h.binary
   many : length bits ≤ 8 * view.length
@@ -79,7 +79,6 @@ stream_names h number view buffer bits v =
     ∙ ap (λ l. map (bit_of_bytes l) (range_with_len 0 n)) v.bytes ∙ bits_of_bytes-bytes_of_bits bits in
     record {
       viewed = ap (λ o. is_none o || view_is (λ w. is_none (buffer_named h w)) o) v.view_is_there ∙ ap is_none v.buffer_is_there;
-      internal = ap (view_is (λ w. buffer_is (λ b. b.external) (buffer_named h w))) v.view_is_there ∙ ap (buffer_is (λ b. b.external)) v.buffer_is_there ∙ v.own;
       inside = ap (view_is (λ w. buffer_is (λ b. nat_lt b.length (w.offset + w.length) || nat_lt (length h.binary) b.length) (buffer_named h w))) v.view_is_there
           ∙ ap (buffer_is (λ b. nat_lt b.length (view.offset + view.length) || nat_lt (length h.binary) b.length)) v.buffer_is_there
           ∙ or_from (nat_lt buffer.length (view.offset + view.length)) (nat_lt (length h.binary) buffer.length)
@@ -97,7 +96,7 @@ view_found offset (x ∷ before) bits rest =
     let e : offset + size + length (stream_bytes before) ≡ offset + length (stream_bytes (x ∷ before)) = omega (arith, length-append (padded 0 (bytes_of_bits x)) (stream_bytes before), length-stream x) in
     view_found (offset + size) before bits rest ∙ ap (λ n. Some (view_record n (bytes_filled (length bits)))) e
 
-buffer_found : (size : ℕ) (before : List (List Bool)) (bits : List Bool) (rest : List (List Bool)) → slice_get (buffer_records size (view_records 0 (before ++ bits ∷ rest))) 0 ≡ Some (record { length = size; external = false })
+buffer_found : (size : ℕ) (before : List (List Bool)) (bits : List Bool) (rest : List (List Bool)) → slice_get (buffer_records size (view_records 0 (before ++ bits ∷ rest))) 0 ≡ Some (record { length = size; uri = None })
 buffer_found size [] bits rest = refl
 buffer_found size (x ∷ before) bits rest = refl
 
@@ -120,14 +119,26 @@ held_of xs tiles contents child = record {
   binary = stream_bytes xs;
 }
 
-abbrev Held_parts : Type 0
+abbrev pub Held_parts : Type 0
 Held_parts = Availability × List ContentPart × Availability
 
 abbrev held_with : List (List Bool) → Held_parts → Held
 held_with xs p = held_of xs p.0 p.1 p.2
 
+-- the same beside files, of which none is named
+abbrev pub sources_with : Find → List (List Bool) → Held_parts → Sources
+sources_with f xs p = record { parts = (held_with xs p).parts; binary = Some (stream_bytes xs); named = f }
+
+-- the bytes beside a view are those of all bitstreams
+beside_view : (f : Find) (xs : List (List Bool)) (p : Held_parts) (number : ℕ) (count : Option ℕ) (view : BufferView) (buffer : Buffer) (bits : List Bool) → Views (held_with xs p) number view buffer bits
+    → held_at (sources_with f xs p) (stream number count) ≡ held_with xs p
+beside_view f xs p number count view buffer bits v =
+    let r = (held_with xs p).parts in
+    ap (λ (o : Option Buffer). let h : Held = record { parts = r; binary = bytes_of (sources_with f xs p) o } in h) (ap (option_and_then (λ w. slice_get r.buffers w.buffer)) v.view_is_there ∙ v.buffer_is_there)
+    ∙ ap (λ (uri : Option (List ℕ)). let h : Held = record { parts = r; binary = or_nothing (bytes_named f (Some (stream_bytes xs)) uri) } in h) v.own
+
 views_there : (p : Held_parts) (before : List (List Bool)) (bits : List Bool) (rest : List (List Bool))
-    → Views (held_with (before ++ bits ∷ rest) p) (length before) (view_record (0 + length (stream_bytes before)) (bytes_filled (length bits))) (record { length = length (stream_bytes (before ++ bits ∷ rest)); external = false }) bits
+    → Views (held_with (before ++ bits ∷ rest) p) (length before) (view_record (0 + length (stream_bytes before)) (bytes_filled (length bits))) (record { length = length (stream_bytes (before ++ bits ∷ rest)); uri = None }) bits
 views_there p before bits rest =
     let all = before ++ bits ∷ rest in
     let size = bytes_filled (length bits) in
@@ -141,41 +152,50 @@ views_there p before bits rest =
       bytes = bytes_found before bits rest (0 + length (stream_bytes before)) size (omega arith) refl;
     }
 
+-- an availability names these bits beside the bytes of its own buffer
+abbrev pub NamesAt : Sources → Availability → List Bool → Type 0
+NamesAt s a bits = Names (held_at s a) a bits
+
 -- the one that stands behind `before` of all names its own bits
-named : (p : Held_parts) (m : Bool) (before : List (List Bool)) (bits : List Bool) (after : List (List Bool)) → is_mixed bits ≡ m
-    → Names (held_with (streams_of (before ++ bits ∷ after)) p) (stated (length (streams_of before)) bits) bits
-named p false before bits after e =
-    subst (λ a. Names (held_with (streams_of (before ++ bits ∷ after)) p) a bits) (sym (ap (λ b. cond b (stream (length (streams_of before)) (Some (ones bits))) (constant (has_one bits))) e))
-    (constant_names (held_with (streams_of (before ++ bits ∷ after)) p) bits e)
-named p true before bits after e =
+named : (f : Find) (p : Held_parts) (m : Bool) (before : List (List Bool)) (bits : List Bool) (after : List (List Bool)) → is_mixed bits ≡ m
+    → NamesAt (sources_with f (streams_of (before ++ bits ∷ after)) p) (stated (length (streams_of before)) bits) bits
+named f p false before bits after e =
+    let s = sources_with f (streams_of (before ++ bits ∷ after)) p in
+    subst (λ a. NamesAt s a bits) (sym (ap (λ b. cond b (stream (length (streams_of before)) (Some (ones bits))) (constant (has_one bits))) e))
+    (constant_names (held_at s (constant (has_one bits))) bits e)
+named f p true before bits after e =
     let chosen : streams_of (before ++ bits ∷ after) ≡ streams_of before ++ bits ∷ streams_of after =
     streams_of-append before (bits ∷ after) ∙ ap (λ l. streams_of before ++ l) (streams_of-append (bits ∷ []) after ∙ ap (λ l. l ++ streams_of after) (one_stream bits e)) in
-    let h = held_with (streams_of before ++ bits ∷ streams_of after) p in
-    let names = stream_names h (length (streams_of before)) (view_record (0 + length (stream_bytes (streams_of before))) (bytes_filled (length bits)))
-    (record { length = length (stream_bytes (streams_of before ++ bits ∷ streams_of after)); external = false }) bits (views_there p (streams_of before) bits (streams_of after)) in
-    subst (λ a. Names (held_with (streams_of (before ++ bits ∷ after)) p) a bits) (sym (ap (λ b. cond b (stream (length (streams_of before)) (Some (ones bits))) (constant (has_one bits))) e))
-    (subst (λ xs. Names (held_with xs p) (stream (length (streams_of before)) (Some (ones bits))) bits) (sym chosen) names)
+    let xs = streams_of before ++ bits ∷ streams_of after in
+    let a = stream (length (streams_of before)) (Some (ones bits)) in
+    let view = view_record (0 + length (stream_bytes (streams_of before))) (bytes_filled (length bits)) in
+    let buffer : Buffer = record { length = length (stream_bytes xs); uri = None } in
+    let there = views_there p (streams_of before) bits (streams_of after) in
+    let names = stream_names (held_with xs p) (length (streams_of before)) view buffer bits there in
+    let own : NamesAt (sources_with f xs p) a bits = subst (λ h. Names h a bits) (sym (beside_view f xs p (length (streams_of before)) (Some (ones bits)) view buffer bits there)) names in
+    subst (λ a. NamesAt (sources_with f (streams_of (before ++ bits ∷ after)) p) a bits) (sym (ap (λ b. cond b (stream (length (streams_of before)) (Some (ones bits))) (constant (has_one bits))) e))
+    (subst (λ xs. NamesAt (sources_with f xs p) a bits) (sym chosen) own)
 
-pub names_own : (tiles : Availability) (contents : List ContentPart) (child : Availability) (all before : List (List Bool)) (bits : List Bool) (after : List (List Bool)) → all ≡ before ++ bits ∷ after
-    → Names (held_of (streams_of all) tiles contents child) (stated (length (streams_of before)) bits) bits
-names_own tiles contents child all before bits after e =
-    subst (λ l. Names (held_of (streams_of l) tiles contents child) (stated (length (streams_of before)) bits) bits) (sym e) (named (tiles, contents, child) (is_mixed bits) before bits after refl)
+pub names_own : (f : Find) (p : Held_parts) (all before : List (List Bool)) (bits : List Bool) (after : List (List Bool)) → all ≡ before ++ bits ∷ after
+    → NamesAt (sources_with f (streams_of all) p) (stated (length (streams_of before)) bits) bits
+names_own f p all before bits after e =
+    subst (λ l. NamesAt (sources_with f (streams_of l) p) (stated (length (streams_of before)) bits) bits) (sym e) (named f p (is_mixed bits) before bits after refl)
 
 -- ---- the same of a list
 
-abbrev pub AllName : Held → List Availability → List (List Bool) → Type 0
-AllName h [] [] = Unit {0}
-AllName h [] (bits ∷ rest) = ⊥
-AllName h (a ∷ more) [] = ⊥
-AllName h (a ∷ more) (bits ∷ rest) = Names h a bits × AllName h more rest
+abbrev pub AllName : Sources → List Availability → List (List Bool) → Type 0
+AllName s [] [] = Unit {0}
+AllName s [] (bits ∷ rest) = ⊥
+AllName s (a ∷ more) [] = ⊥
+AllName s (a ∷ more) (bits ∷ rest) = NamesAt s a bits × AllName s more rest
 
-pub all_name : (tiles : Availability) (contents : List ContentPart) (child : Availability) (all before some after : List (List Bool)) → all ≡ before ++ (some ++ after)
-    → AllName (held_of (streams_of all) tiles contents child) (all_stated (length (streams_of before)) some) some
-all_name tiles contents child all before [] after e = tt
-all_name tiles contents child all before (bits ∷ some) after e =
-    let h = held_of (streams_of all) tiles contents child in
+pub all_name : (f : Find) (p : Held_parts) (all before some after : List (List Bool)) → all ≡ before ++ (some ++ after)
+    → AllName (sources_with f (streams_of all) p) (all_stated (length (streams_of before)) some) some
+all_name f p all before [] after e = tt
+all_name f p all before (bits ∷ some) after e =
+    let s = sources_with f (streams_of all) p in
     let more : length (streams_of (before ++ bits ∷ [])) ≡ length (streams_of before) + length (streams_of (bits ∷ [])) =
     ap length (streams_of-append before (bits ∷ [])) ∙ length-append (streams_of before) (streams_of (bits ∷ [])) in (
-      names_own tiles contents child all before bits (some ++ after) e,
-      subst (λ n. AllName h (all_stated n some) some) more (all_name tiles contents child all (before ++ bits ∷ []) some after (e ∙ sym (append_assoc before (bits ∷ []) (some ++ after)))),
+      names_own f p all before bits (some ++ after) e,
+      subst (λ n. AllName s (all_stated n some) some) more (all_name f p all (before ++ bits ∷ []) some after (e ∙ sym (append_assoc before (bits ∷ []) (some ++ after)))),
     )

@@ -1,9 +1,9 @@
 -- A canonical file holds its subtree.
-use Rattle.std.proofs.Common.{◌≡◌, ◌∙◌, ℕ, suc, ◌+◌, ◌-◌, ◌*◌, ◌^◌, ◌<◌, ◌≤◌, ◌||◌, Bool, true, false, cond, List, [], ◌∷◌, ◌++◌, length, map, take, Some, option_map, length-append, refl, sym, ap, ap₂, subst, lit<, arith}
-use Rattle.std.specs.Prelude.{Ok}
-use Rattle.std.specs.List.{list_any, All}
+use Rattle.std.proofs.Common.{◌≡◌, ◌∙◌, ℕ, zero, suc, ◌+◌, ◌-◌, ◌*◌, ◌^◌, ◌<◌, ◌≤◌, ◌||◌, Bool, true, false, cond, List, [], ◌∷◌, ◌++◌, length, map, take, Some, option_map, length-append, refl, sym, ap, ap₂, subst, lit<, arith}
+use Rattle.std.specs.Prelude.{Option, None, option_and_then, is_none, nat_lt, Result, Ok, if◌then◌else◌}
+use Rattle.std.specs.List.{list_any, slice_get, All}
 use Rattle.std.proofs.Math.Nat.{pow-le-pow_right}
-use Rattle.std.proofs.lemmas.Bool.{le-ltb}
+use Rattle.std.proofs.lemmas.Bool.{le-ltb, and_right}
 use Rattle.std.proofs.lemmas.List.{take_all}
 use Rattle.serde_json.specs.Data.{Items}
 use Rattle.serde_json.specs.View.{items_of}
@@ -16,8 +16,11 @@ use Rattle.implicit_tiling.specs.Limits.{most_subtree_levels, most_file_bytes}
 use Rattle.implicit_tiling.specs.Tile.{Tile}
 use Rattle.implicit_tiling.specs.Scene.{Layout, good, bad}
 use Rattle.implicit_tiling.specs.Subtree.{Subtree, IsSubtree, IsOf, node_count, child_count, bits_of}
-use Rattle.implicit_tileset.specs.Record.{Availability, well_formed, SubtreeRecord, record_of}
-use Rattle.implicit_tileset.specs.SubtreeFile.{Used, Held, names_no_view, is_external, is_out, is_short, is_miscounted, raw_bits, parts_of, and_then, availabilities, used_of, subtree_from, subtree_checked, subtree_held, subtree_recorded, subtree_of, outcome_from, outcome_in}
+use Rattle.implicit_tileset.specs.Record.{Buffer, BufferView, Availability, well_formed, SubtreeRecord, record_of}
+use Rattle.implicit_tileset.specs.SubtreeFile.{Used, names_no_view, is_out, is_short, is_miscounted, raw_bits, parts_of, and_then, availabilities, wanted_contents, used_of, subtree_checked, outcome_from}
+use Rattle.implicit_tileset.specs.FileForms.{FileParts, both_parts, is_json_form}
+use Rattle.implicit_tileset.specs.BufferFiles.{Find, buffer_name, buffer_at, is_used_buffer, put_once, uris_below, used_names, bytes_together}
+use Rattle.implicit_tileset.specs.FileOutcome.{Sources, held_at, has_no_bytes, is_nowhere, subtree_at, files_checked, beside, sources_of, subtree_of_record, subtree_found, outcome_of_bytes}
 use Rattle.subtree_write.specs.Canonical.{aligned, padded, is_mixed, streams_of, availabilities_of, streams, binary, stream_bytes, view_values, availability_value, availability_values, json_value, json_part, file_of, canonical}
 use Rattle.availability.specs.Rules.{KeepsRules}
 use Rattle.subtree_write.specs.Reading.{CanonicalFilesReadBack, CanonicalFilesAreGood}
@@ -27,8 +30,8 @@ use Rattle.implicit_tileset.proofs.WrittenJson.{ReadsAs, json_of-spaced}
 use Rattle.implicit_tileset.proofs.WrittenLengths.{IsWithin, ItemsWithin}
 use Rattle.subtree_write.proofs.ReadValues.{IsSmall, AreSmall, AreShort, views_small, availabilities_small, availability_small, file_reads, file_within}
 use Rattle.subtree_write.proofs.Header.{parts_of-file, length-file}
-use Rattle.subtree_write.proofs.ReadRecord.{stated, all_stated, record_stated}
-use Rattle.subtree_write.proofs.Held.{used, Names, AllName, held_of, names_own, all_name}
+use Rattle.subtree_write.proofs.ReadRecord.{view_records, buffer_records, stated, all_stated, record_stated}
+use Rattle.subtree_write.proofs.Held.{used, Names, NamesAt, AllName, Held_parts, sources_with, names_own, all_name}
 
 -- ---- sizes
 
@@ -129,40 +132,39 @@ value_short s w =
 
 -- ---- no row of the table holds
 
-record Passes (h : Held) (u : Used) : Type 0 where
-  viewed : names_no_view h u.availability ≡ false
-  internal : is_external h u.availability ≡ false
-  inside : is_out h u.availability ≡ false
-  enough : is_short h u ≡ false
-  counted : is_miscounted h u ≡ false
+record Passes (s : Sources) (u : Used) : Type 0 where
+  viewed : names_no_view (held_at s u.availability) u.availability ≡ false
+  inside : is_out (held_at s u.availability) u.availability ≡ false
+  enough : is_short (held_at s u.availability) u ≡ false
+  counted : is_miscounted (held_at s u.availability) u ≡ false
 
-abbrev AllPass : Held → List Used → Type 0
-AllPass h [] = Unit {0}
-AllPass h (u ∷ us) = Passes h u × AllPass h us
+abbrev AllPass : Sources → List Used → Type 0
+AllPass s [] = Unit {0}
+AllPass s (u ∷ us) = Passes s u × AllPass s us
 
-no_row : (h : Held) (test : Used → Bool) (us : List Used) → ((u : Used) → Passes h u → test u ≡ false) → AllPass h us → list_any test us ≡ false
-no_row h test [] each all = refl
-no_row h test (u ∷ us) each all = ap (λ b. b || list_any test us) (each u all.0) ∙ no_row h test us each all.1
+no_row : (s : Sources) (test : Used → Bool) (us : List Used) → ((u : Used) → Passes s u → test u ≡ false) → AllPass s us → list_any test us ≡ false
+no_row s test [] each all = refl
+no_row s test (u ∷ us) each all = ap (λ b. b || list_any test us) (each u all.0) ∙ no_row s test us each all.1
 
-passes : (h : Held) (a : Availability) (bits : List Bool) (n : ℕ) → Names h a bits → length bits ≡ n → Passes h (used a n)
-passes h a bits n names e = subst (λ k. Passes h (used a k)) e (record { viewed = names.viewed; internal = names.internal; inside = names.inside; enough = names.enough; counted = names.counted })
+passes : (s : Sources) (a : Availability) (bits : List Bool) (n : ℕ) → NamesAt s a bits → length bits ≡ n → Passes s (used a n)
+passes s a bits n names e = subst (λ k. Passes s (used a k)) e (record { viewed = names.viewed; inside = names.inside; enough = names.enough; counted = names.counted })
 
-raw_own : (h : Held) (a : Availability) (bits : List Bool) (n : ℕ) → Names h a bits → length bits ≡ n → raw_bits h (used a n) ≡ bits
-raw_own h a bits n names e = ap (λ k. raw_bits h (used a k)) (sym e) ∙ names.raw
+raw_own : (s : Sources) (a : Availability) (bits : List Bool) (n : ℕ) → NamesAt s a bits → length bits ≡ n → raw_bits (held_at s a) (used a n) ≡ bits
+raw_own s a bits n names e = ap (λ k. raw_bits (held_at s a) (used a k)) (sym e) ∙ names.raw
 
-contents_pass : (h : Held) (named : List Availability) (some : List (List Bool)) (n : ℕ) (last : Used) → AllName h named some → All (λ bits. length bits ≡ n) some → Passes h last → AllPass h (map (λ a. used a n) named ++ last ∷ [])
-contents_pass h [] [] n last names all p = (p, tt)
-contents_pass h [] (bits ∷ some) n last names all p = absurd names
-contents_pass h (a ∷ named) [] n last names all p = absurd names
-contents_pass h (a ∷ named) (bits ∷ some) n last names all p =
-    (passes h a bits n names.0 (all 0 [] (omega arith)), contents_pass h named some n last names.1 (λ i d lt. all (suc i) d (omega arith)) p)
+contents_pass : (s : Sources) (named : List Availability) (some : List (List Bool)) (n : ℕ) (last : Used) → AllName s named some → All (λ bits. length bits ≡ n) some → Passes s last → AllPass s (map (λ a. used a n) named ++ last ∷ [])
+contents_pass s [] [] n last names all p = (p, tt)
+contents_pass s [] (bits ∷ some) n last names all p = absurd names
+contents_pass s (a ∷ named) [] n last names all p = absurd names
+contents_pass s (a ∷ named) (bits ∷ some) n last names all p =
+    (passes s a bits n names.0 (all 0 [] (omega arith)), contents_pass s named some n last names.1 (λ i d lt. all (suc i) d (omega arith)) p)
 
-contents_own : (h : Held) (named : List Availability) (some : List (List Bool)) (n : ℕ) → AllName h named some → All (λ bits. length bits ≡ n) some → map (λ a. raw_bits h (used a n)) named ≡ some
-contents_own h [] [] n names all = refl
-contents_own h [] (bits ∷ some) n names all = absurd names
-contents_own h (a ∷ named) [] n names all = absurd names
-contents_own h (a ∷ named) (bits ∷ some) n names all =
-    ap₂ (λ b bs. b ∷ bs) (raw_own h a bits n names.0 (all 0 [] (omega arith))) (contents_own h named some n names.1 (λ i d lt. all (suc i) d (omega arith)))
+contents_own : (s : Sources) (named : List Availability) (some : List (List Bool)) (n : ℕ) → AllName s named some → All (λ bits. length bits ≡ n) some → map (λ a. raw_bits (held_at s a) (used a n)) named ≡ some
+contents_own s [] [] n names all = refl
+contents_own s [] (bits ∷ some) n names all = absurd names
+contents_own s (a ∷ named) [] n names all = absurd names
+contents_own s (a ∷ named) (bits ∷ some) n names all =
+    ap₂ (λ b bs. b ∷ bs) (raw_own s a bits n names.0 (all 0 [] (omega arith))) (contents_own s named some n names.1 (λ i d lt. all (suc i) d (omega arith)))
 
 length-all_stated : (view : ℕ) (some : List (List Bool)) → length (all_stated view some) ≡ length some
 length-all_stated view [] = refl
@@ -176,15 +178,59 @@ well_formed_all : (named : List Availability) → availabilities (map well_forme
 well_formed_all [] = refl
 well_formed_all (a ∷ named) = ap (option_map (λ l. a ∷ l)) (well_formed_all named)
 
+-- ---- no file is needed
+
+abbrev uri_at : List Buffer → ℕ → Option (List ℕ)
+uri_at buffers n = option_and_then (λ b. b.uri) (slice_get buffers n)
+
+none_at : (n : ℕ) → uri_at [] n ≡ None
+none_at zero = refl
+none_at (suc n) = refl
+
+no_uri : (size : ℕ) (views : List BufferView) (n : ℕ) → uri_at (buffer_records size views) n ≡ None
+no_uri size [] n = none_at n
+no_uri size (view ∷ views) zero = refl
+no_uri size (view ∷ views) (suc n) = none_at n
+
+none_by : (used : Bool) (found : Option (List ℕ)) → found ≡ None → (if used then found else None) ≡ None
+none_by true found is = is
+none_by false found is = refl
+
+no_uris : (r : SubtreeRecord) (us : List Used) (n : ℕ) → ((k : ℕ) → uri_at r.buffers k ≡ None) → uris_below r us n ≡ []
+no_uris r us zero each = refl
+no_uris r us (suc n) each = ap₂ put_once (no_uris r us n each) (none_by (is_used_buffer r us n) (uri_at r.buffers n) (each n))
+
+no_names : (layout : Layout) (root : Tile) (r : SubtreeRecord) (us : List Used) → ((k : ℕ) → uri_at r.buffers k ≡ None) → used_names layout root r us ≡ []
+no_names layout root r us each = ap (map (buffer_name layout root)) (no_uris r us (length r.buffers) each)
+
+somewhere : (bytes : List ℕ) (buffer : Option Buffer) → has_no_bytes (Some bytes) buffer ≡ false
+somewhere bytes None = refl
+somewhere bytes (Some buffer) = and_right (is_none buffer.uri) false refl
+
+all_somewhere : (s : Sources) (bytes : List ℕ) (us : List Used) → s.binary ≡ Some bytes → list_any (λ u. is_nowhere s u.availability) us ≡ false
+all_somewhere s bytes [] is = refl
+all_somewhere s bytes (u ∷ us) is =
+    ap (λ b. b || list_any (λ w. is_nowhere s w.availability) us) (ap (λ binary. has_no_bytes binary (buffer_at s.parts u.availability)) is ∙ somewhere bytes (buffer_at s.parts u.availability))
+    ∙ all_somewhere s bytes us is
+
+files_pass : {B : Type 0} (find : Find) (names : List (List ℕ)) (rest : Result B ℕ) → names ≡ [] → files_checked find names rest ≡ rest
+files_pass find names rest none =
+    refuse-past 19 (list_any (λ name. is_none (find name)) names) _ (ap (list_any (λ name. is_none (find name))) none)
+    ∙ refuse-past 20 (nat_lt most_file_bytes (bytes_together find names)) rest (ap (λ ns. nat_lt most_file_bytes (bytes_together find ns)) none ∙ le-ltb most_file_bytes 0 (omega arith))
+
 -- ---- the subtree that is held
 
-rows_pass : (layout : Layout) (root : Tile) (h : Held) (contents : List Availability) (us : List Used) → AllPass h us → subtree_held layout root h contents us ≡ subtree_checked (subtree_from layout root h contents)
-rows_pass layout root h contents us all =
-    refuse-past 12 (list_any (λ u. names_no_view h u.availability) us) _ (no_row h (λ u. names_no_view h u.availability) us (λ u p. p.viewed) all)
-    ∙ refuse-past 13 (list_any (λ u. is_external h u.availability) us) _ (no_row h (λ u. is_external h u.availability) us (λ u p. p.internal) all)
-    ∙ refuse-past 14 (list_any (λ u. is_out h u.availability) us) _ (no_row h (λ u. is_out h u.availability) us (λ u p. p.inside) all)
-    ∙ refuse-past 15 (list_any (is_short h) us) _ (no_row h (is_short h) us (λ u p. p.enough) all)
-    ∙ refuse-past 16 (list_any (is_miscounted h) us) _ (no_row h (is_miscounted h) us (λ u p. p.counted) all)
+rows_pass : (find : Find) (layout : Layout) (root : Tile) (bytes : List ℕ) (r : SubtreeRecord) (contents : List Availability) (us : List Used) → ((k : ℕ) → uri_at r.buffers k ≡ None)
+    → AllPass (sources_of find layout root (Some bytes) r) us
+    → subtree_of_record find layout root (Some bytes) r contents us ≡ subtree_checked (subtree_at layout root (sources_of find layout root (Some bytes) r) contents)
+rows_pass find layout root bytes r contents us own all =
+    let s = sources_of find layout root (Some bytes) r in
+    refuse-past 12 (list_any (λ u. names_no_view (held_at s u.availability) u.availability) us) _ (no_row s (λ u. names_no_view (held_at s u.availability) u.availability) us (λ u p. p.viewed) all)
+    ∙ refuse-past 13 (list_any (λ u. is_nowhere s u.availability) us) _ (all_somewhere s bytes us refl)
+    ∙ files_pass find (used_names layout root r us) _ (no_names layout root r us own)
+    ∙ refuse-past 14 (list_any (λ u. is_out (held_at s u.availability) u.availability) us) _ (no_row s (λ u. is_out (held_at s u.availability) u.availability) us (λ u p. p.inside) all)
+    ∙ refuse-past 15 (list_any (λ u. is_short (held_at s u.availability) u) us) _ (no_row s (λ u. is_short (held_at s u.availability) u) us (λ u p. p.enough) all)
+    ∙ refuse-past 16 (list_any (λ u. is_miscounted (held_at s u.availability) u) us) _ (no_row s (λ u. is_miscounted (held_at s u.availability) u) us (λ u p. p.counted) all)
 
 checked : (s : Subtree) → KeepsRules s → subtree_checked s ≡ Ok s
 checked s rules = refuse-past 17 _ _ rules.no_orphan ∙ refuse-past 18 _ _ rules.no_content_alone
@@ -196,62 +242,74 @@ own_layout s template templates = record { scheme = s.scheme; subtree_levels = s
 abbrev with_bits : Subtree → List Bool → List (List Bool) → List Bool → Subtree
 with_bits s tiles contents child = record { scheme = s.scheme; levels = s.levels; cut = s.cut; root = s.root; tiles = tiles; contents = contents; child = child }
 
-record HoldsIt (h : Held) (contents : List Availability) (s : Subtree) : Type 0 where
-  tiles : Names h h.parts.tiles s.tiles
-  contents_all : AllName h contents s.contents
-  child : Names h h.parts.child s.child
+record HoldsIt (s : Sources) (contents : List Availability) (held : Subtree) : Type 0 where
+  tiles : NamesAt s s.parts.tiles held.tiles
+  contents_all : AllName s contents held.contents
+  child : NamesAt s s.parts.child held.child
 
-held_subtree : (s : Subtree) (template : List ℕ) (templates : List (List ℕ)) (h : Held) (contents : List Availability) → IsSubtree s → KeepsRules s → HoldsIt h contents s
-    → subtree_held (own_layout s template templates) s.root h contents (used_of (own_layout s template templates) h.parts contents) ≡ Ok s
-held_subtree s template templates h contents w rules holds =
+held_subtree : (find : Find) (s : Subtree) (template : List ℕ) (templates : List (List ℕ)) (bytes : List ℕ) (r : SubtreeRecord) (contents : List Availability) → IsSubtree s → KeepsRules s → ((k : ℕ) → uri_at r.buffers k ≡ None)
+    → HoldsIt (sources_of find (own_layout s template templates) s.root (Some bytes) r) contents s
+    → subtree_of_record find (own_layout s template templates) s.root (Some bytes) r contents (used_of (own_layout s template templates) r contents) ≡ Ok s
+held_subtree find s template templates bytes r contents w rules own holds =
     let layout = own_layout s template templates in
+    let h = sources_of find layout s.root (Some bytes) r in
     let nodes = node_count s.scheme s.levels in
     let children = child_count s.scheme s.levels in
-    let last = passes h h.parts.child s.child children holds.child w.child_bits in
-    let all : AllPass h (used_of layout h.parts contents) =
-    (passes h h.parts.tiles s.tiles nodes holds.tiles w.tile_bits, contents_pass h contents s.contents nodes (used h.parts.child children) holds.contents_all w.content_bits last) in
-    let same : subtree_from layout s.root h contents ≡ s =
-    ap (λ l. with_bits s l (map (λ a. raw_bits h (used a nodes)) contents) (raw_bits h (used h.parts.child children))) (raw_own h h.parts.tiles s.tiles nodes holds.tiles w.tile_bits)
-    ∙ ap (λ l. with_bits s s.tiles l (raw_bits h (used h.parts.child children))) (contents_own h contents s.contents nodes holds.contents_all w.content_bits)
-    ∙ ap (λ l. with_bits s s.tiles s.contents l) (raw_own h h.parts.child s.child children holds.child w.child_bits) in
-    rows_pass layout s.root h contents (used_of layout h.parts contents) all ∙ ap subtree_checked same ∙ checked s rules
+    let last = passes h r.child s.child children holds.child w.child_bits in
+    let all : AllPass h (used_of layout r contents) =
+    (passes h r.tiles s.tiles nodes holds.tiles w.tile_bits, contents_pass h contents s.contents nodes (used r.child children) holds.contents_all w.content_bits last) in
+    let same : subtree_at layout s.root h contents ≡ s =
+    ap (λ l. with_bits s l (map (λ a. raw_bits (held_at h a) (used a nodes)) contents) (raw_bits (held_at h r.child) (used r.child children))) (raw_own h r.tiles s.tiles nodes holds.tiles w.tile_bits)
+    ∙ ap (λ l. with_bits s s.tiles l (raw_bits (held_at h r.child) (used r.child children))) (contents_own h contents s.contents nodes holds.contents_all w.content_bits)
+    ∙ ap (λ l. with_bits s s.tiles s.contents l) (raw_own h r.child s.child children holds.child w.child_bits) in
+    rows_pass find layout s.root bytes r contents (used_of layout r contents) own all ∙ ap subtree_checked same ∙ checked s rules
 
-recorded : (s : Subtree) (template : List ℕ) (templates : List (List ℕ)) (h : Held) (contents : List Availability) → IsSubtree s → KeepsRules s → HoldsIt h contents s
-    → length s.contents ≤ length templates → length contents ≡ length s.contents → h.parts.contents ≡ map well_formed contents → subtree_recorded (own_layout s template templates) s.root h.binary h.parts ≡ Ok s
-recorded s template templates h contents w rules holds few long e =
+recorded : (find : Find) (s : Subtree) (template : List ℕ) (templates : List (List ℕ)) (bytes : List ℕ) (r : SubtreeRecord) (contents : List Availability) → IsSubtree s → KeepsRules s → ((k : ℕ) → uri_at r.buffers k ≡ None)
+    → HoldsIt (sources_of find (own_layout s template templates) s.root (Some bytes) r) contents s
+    → length s.contents ≤ length templates → length contents ≡ length s.contents → r.contents ≡ map well_formed contents
+    → need 11 (wanted_contents (own_layout s template templates) r) (λ cs. subtree_of_record find (own_layout s template templates) s.root (Some bytes) r cs (used_of (own_layout s template templates) r cs)) ≡ Ok s
+recorded find s template templates bytes r contents w rules own holds few long e =
     let layout = own_layout s template templates in
     let wanted = ap (λ l. availabilities (take (length templates) l)) e ∙ ap availabilities (take_all (length templates) (map well_formed contents) (omega (arith, length_well_formed contents))) ∙ well_formed_all contents in
-    ap (λ o. need 11 o (λ cs. subtree_held layout s.root h cs (used_of layout h.parts cs))) wanted ∙ held_subtree s template templates h contents w rules holds
+    ap (λ o. need 11 o (λ cs. subtree_of_record find layout s.root (Some bytes) r cs (used_of layout r cs))) wanted ∙ held_subtree find s template templates bytes r contents w rules own holds
 
 -- from the parts to the whole
-assembled : (layout : Layout) (root : Tile) (file json bytes : List ℕ) (r : SubtreeRecord) (s : Subtree) → parts_of file ≡ Ok (record { json = json; binary = bytes }) → record_of json ≡ Ok r
-    → subtree_recorded layout root bytes r ≡ Ok s → subtree_of layout root file ≡ Ok s
-assembled layout root file json bytes r s parts rec held =
-    ap (λ p. and_then p (λ q. and_then (record_of q.json) (subtree_recorded layout root q.binary))) parts
-    ∙ ap (λ p. and_then p (subtree_recorded layout root bytes)) rec ∙ held
+abbrev after_parts : Find → Layout → Tile → Result FileParts ℕ → Result Subtree ℕ
+after_parts find layout root parts = and_then parts (λ p. and_then (record_of p.json) (λ r. need 11 (wanted_contents layout r) (λ cs. subtree_of_record find layout root p.binary r cs (used_of layout r cs))))
+
+assembled : (find : Find) (layout : Layout) (root : Tile) (file json bytes : List ℕ) (r : SubtreeRecord) (s : Subtree) → is_json_form file ≡ false → parts_of file ≡ Ok (record { json = json; binary = bytes }) → record_of json ≡ Ok r
+    → need 11 (wanted_contents layout r) (λ cs. subtree_of_record find layout root (Some bytes) r cs (used_of layout r cs)) ≡ Ok s → subtree_found find layout root file ≡ Ok s
+assembled find layout root file json bytes r s form parts rec held =
+    ap (λ b. after_parts find layout root (if b then Ok (record { json = file; binary = None }) else and_then (parts_of file) (λ p. Ok (both_parts p)))) form
+    ∙ ap (λ p. after_parts find layout root (and_then p (λ q. Ok (both_parts q)))) parts
+    ∙ ap (λ p. and_then p (λ q. need 11 (wanted_contents layout q) (λ cs. subtree_of_record find layout root (Some bytes) q cs (used_of layout q cs)))) rec ∙ held
 
 part_short : (text : List ℕ) → length text ≤ 8600 → length (padded 32 text) < 2 ^ 64
 part_short text h = omega (arith, length-padded 32 text)
 
-own_reads_back : (s : Subtree) (template : List ℕ) (templates : List (List ℕ)) → IsSubtree s → KeepsRules s → length s.contents ≤ length templates → subtree_of (own_layout s template templates) s.root (canonical s) ≡ Ok s
-own_reads_back s template templates w rules few =
+own_reads_back : (find : Find) (s : Subtree) (template : List ℕ) (templates : List (List ℕ)) → IsSubtree s → KeepsRules s → length s.contents ≤ length templates
+    → subtree_found find (own_layout s template templates) s.root (canonical s) ≡ Ok s
+own_reads_back find s template templates w rules few =
     let xs = streams s in
     let text = compact_text (json_value s) in
     let b = length (streams_of (s.tiles ∷ [])) in
     let c = length (streams_of (s.tiles ∷ s.contents)) in
     let size = length (binary s) in
     let contents = all_stated b s.contents in
-    let h = held_of xs (stated 0 s.tiles) (map well_formed contents) (stated c s.child) in
+    let layout = own_layout s template templates in
+    let p : Held_parts = (stated 0 s.tiles, map well_formed contents, stated c s.child) in
+    let f = beside find layout s.root in
+    let h = sources_with f xs p in
     let bytes_short : length (binary s) < 2 ^ 64 = omega (arith, bytes_few xs (streams_short (availabilities_of s) (all_short s w)), streams_few (availabilities_of s), availabilities_few s w) in
     let holds : HoldsIt h contents s = record {
-      tiles = names_own (stated 0 s.tiles) (map well_formed contents) (stated c s.child) (availabilities_of s) [] s.tiles (s.contents ++ s.child ∷ []) refl;
-      contents_all = all_name (stated 0 s.tiles) (map well_formed contents) (stated c s.child) (availabilities_of s) (s.tiles ∷ []) s.contents (s.child ∷ []) refl;
-      child = names_own (stated 0 s.tiles) (map well_formed contents) (stated c s.child) (availabilities_of s) (s.tiles ∷ s.contents) s.child [] refl;
+      tiles = names_own f p (availabilities_of s) [] s.tiles (s.contents ++ s.child ∷ []) refl;
+      contents_all = all_name f p (availabilities_of s) (s.tiles ∷ []) s.contents (s.child ∷ []) refl;
+      child = names_own f p (availabilities_of s) (s.tiles ∷ s.contents) s.child [] refl;
     } in
-    assembled (own_layout s template templates) s.root (canonical s) (json_part s) (binary s) h.parts s
+    assembled find layout s.root (canonical s) (json_part s) (binary s) h.parts s refl
     (parts_of-file (json_part s) (binary s) (part_short text (value_short s w)) bytes_short)
     (record_stated (json_part s) xs size 0 b c s.tiles s.contents s.child (json_of-spaced 3 (json_value s) (aligned (length text) - length text) (omega arith) (value_reads s w)))
-    (recorded s template templates h contents w rules holds few (length-all_stated b s.contents) refl)
+    (recorded find s template templates (binary s) h.parts contents w rules (no_uri size (view_records 0 xs)) holds few (length-all_stated b s.contents) refl)
 
 layout_own : (layout : Layout) (s : Subtree) → IsOf layout s → own_layout s layout.subtree layout.contents ≡ layout
 layout_own layout s of =
@@ -260,12 +318,12 @@ layout_own layout s of =
     ∙ ap (λ n. record { scheme = layout.scheme; subtree_levels = layout.subtree_levels; levels = n; subtree = layout.subtree; contents = layout.contents }) of.same_cut
 
 pub canonical_files_read_back : CanonicalFilesReadBack
-canonical_files_read_back layout s w of rules =
-    subst (λ l. subtree_of l s.root (canonical s) ≡ Ok s) (layout_own layout s of) (own_reads_back s layout.subtree layout.contents w rules of.contents_named)
+canonical_files_read_back find layout s w of rules =
+    subst (λ l. subtree_found find l s.root (canonical s) ≡ Ok s) (layout_own layout s of) (own_reads_back find s layout.subtree layout.contents w rules of.contents_named)
 
-good_from : (layout : Layout) (root : Tile) (file : List ℕ) (s : Subtree) → length file ≤ most_file_bytes → subtree_of layout root file ≡ Ok s → outcome_in layout root (Some file) ≡ good (bits_of s)
-good_from layout root file s short e =
-    ap (λ b. cond b (bad 2) (outcome_from (subtree_of layout root file))) (le-ltb most_file_bytes (length file) short) ∙ ap outcome_from e
+good_from : (find : Find) (layout : Layout) (root : Tile) (file : List ℕ) (s : Subtree) → length file ≤ most_file_bytes → subtree_found find layout root file ≡ Ok s → outcome_of_bytes find layout root (Some file) ≡ good (bits_of s)
+good_from find layout root file s short e =
+    ap (λ b. cond b (bad 2) (outcome_from (subtree_found find layout root file))) (le-ltb most_file_bytes (length file) short) ∙ ap outcome_from e
 
 file_short : (json bytes : List ℕ) → length json ≤ 8607 → length bytes ≤ 2 ^ 18 * 18 → length (file_of json bytes) ≤ most_file_bytes
 file_short json bytes h k = omega (arith, length-file json bytes)
@@ -274,6 +332,6 @@ text_short : (text : List ℕ) → length text ≤ 8600 → length (padded 32 te
 text_short text h = omega (arith, length-padded 32 text)
 
 pub canonical_files_are_good : CanonicalFilesAreGood
-canonical_files_are_good layout s w of rules =
+canonical_files_are_good find layout s w of rules =
     let few : length (binary s) ≤ 2 ^ 18 * 18 = omega (arith, bytes_few (streams s) (streams_short (availabilities_of s) (all_short s w)), streams_few (availabilities_of s), availabilities_few s w) in
-    good_from layout s.root (canonical s) s (file_short (json_part s) (binary s) (text_short (compact_text (json_value s)) (value_short s w)) few) (canonical_files_read_back layout s w of rules)
+    good_from find layout s.root (canonical s) s (file_short (json_part s) (binary s) (text_short (compact_text (json_value s)) (value_short s w)) few) (canonical_files_read_back find layout s w of rules)

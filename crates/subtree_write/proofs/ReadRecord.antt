@@ -23,7 +23,7 @@ view_records offset (bits ∷ rest) = view_record offset (bytes_filled (length b
 
 abbrev pub buffer_records : ℕ → List BufferView → List Buffer
 buffer_records size [] = []
-buffer_records size (view ∷ views) = record { length = size; external = false } ∷ []
+buffer_records size (view ∷ views) = record { length = size; uri = None } ∷ []
 
 abbrev pub stated : ℕ → List Bool → Availability
 stated view bits = cond (is_mixed bits) (stream view (Some (ones bits))) (constant (has_one bits))

@@ -15,7 +15,7 @@ use Rattle.tile_builder.specs.Puts.{ArePut, IfTold}
 use Rattle.tile_builder.proofs.Putting.{all_found, told_weaker}
 use Rattle.tile_builder.proofs.Steps.{file_of}
 
-have_made_files : (layout : Layout) (words : List ℕ) (before now : Files) → HasDistinctNames (made_files layout words) → ArePut (made_files layout words) before now
+pub have_made_files : (layout : Layout) (words : List ℕ) (before now : Files) → HasDistinctNames (made_files layout words) → ArePut (made_files layout words) before now
     → HaveMadeFiles layout words now
 have_made_files layout words before now distinct put k d h =
     let roots = made_roots layout words in

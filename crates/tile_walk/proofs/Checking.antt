@@ -13,7 +13,7 @@ use Rattle.implicit_tiling.specs.Scene.{Layout, Scene, good, bad, fault_of}
 use Rattle.implicit_tiling.specs.Subtree.{Subtree, IsSubtree, IsOf, bits_of}
 use Rattle.implicit_tiling.specs.Nodes.{child_words}
 use Rattle.implicit_tiling.specs.Answer.{fault_at}
-use Rattle.implicit_tiling.specs.Checked.{most_roots, Checked}
+use Rattle.implicit_tiling.specs.Checked.{most_roots, Checked, checked}
 use Rattle.implicit_tiling.specs.Code.{word, word_tile}
 use Rattle.implicit_tiling.specs.Steps.{walk_roots}
 use Rattle.tile_word.proofs.Tiles.{parts_have_their_word}
@@ -106,10 +106,12 @@ next_are_roots layout st region level old new limits of some at are n more =
 pub roots_at : (layout : Layout) (level other : ℕ) (roots : List ℕ) → level ≡ other → AreRoots layout level roots → AreRoots layout other roots
 roots_at layout level other roots same are = let P : ℕ → Type 0 = λ l. AreRoots layout l roots in subst P same are
 
--- a turn ends among the roots of a frontier
-pub check_is_cut : (s : Scene) (level : ℕ) (roots : List ℕ) (looked : ℕ) (found new : List FoundFault) (end : CheckEnd) → IsCheckedTo s level roots looked found → AreRoots s.layout level roots
-    → Counts looked (length roots) end → end.more ≡ true → new ≡ found ++ found_faults s (take (end.looked - looked) roots) → IsCheck s new end
-check_is_cut s level roots looked found new end is are counts more so =
+-- where a turn ends among the roots of a frontier, those before it are all that are looked at
+pub cut_here : (s : Scene) (level : ℕ) (roots : List ℕ) (looked : ℕ) (found : List FoundFault) (end : CheckEnd) → IsCheckedTo s level roots looked found → AreRoots s.layout level roots
+    → Counts looked (length roots) end → end.more ≡ true
+    → let done = reached_above s level ++ map (word_tile s.layout.scheme) (take (end.looked - looked) roots) in
+    (length done ≡ end.looked) × (checked s ≡ record { looked = done; faults = filter_map (fault_at s) done; more = true })
+cut_here s level roots looked found end is are counts more =
     let f = word_tile s.layout.scheme in
     let cut = counts.cut more in
     let i = end.looked - looked in
@@ -127,17 +129,36 @@ check_is_cut s level roots looked found new end is are counts more so =
     let rest = after ++ flat_map (reached_at s) (range_with_len (level + 1) (s.layout.levels - (level + 1))) in
     let all = reached_at_a_root s level before (f (get_or roots i 0)) after r.at_start r.below parts in
     let count : length done ≡ end.looked = omega (arith, length-append (reached_above s level) before, length-map (take i roots) f, length-take-le i roots (omega (arith, low)), is.count, counts.some) in
-    let c = checked_is_cut s done (f (get_or roots i 0)) rest all (count ∙ cut.0) in
+    (count, checked_is_cut s done (f (get_or roots i 0)) rest all (count ∙ cut.0))
+
+-- a turn ends among the roots of a frontier
+pub check_is_cut : (s : Scene) (level : ℕ) (roots : List ℕ) (looked : ℕ) (found new : List FoundFault) (end : CheckEnd) → IsCheckedTo s level roots looked found → AreRoots s.layout level roots
+    → Counts looked (length roots) end → end.more ≡ true → new ≡ found ++ found_faults s (take (end.looked - looked) roots) → IsCheck s new end
+check_is_cut s level roots looked found new end is are counts more so =
+    let i = end.looked - looked in
+    let before = map (word_tile s.layout.scheme) (take i roots) in
+    let c = cut_here s level roots looked found end is are counts more in
     let fw = map (found_of s.layout.scheme) in
     record {
-      faults_are = so ∙ ap (λ fs. fs ++ found_faults s (take i roots)) is.faults ∙ sym (faults-append s (reached_above s level) before) ∙ ap (λ (k : Checked). fw k.faults) (sym c);
-      looked_is = sym count ∙ ap (λ (k : Checked). length k.looked) (sym c);
-      more_is = more ∙ ap (λ (k : Checked). k.more) (sym c);
+      faults_are = so ∙ ap (λ fs. fs ++ found_faults s (take i roots)) is.faults ∙ sym (faults-append s (reached_above s level) before) ∙ ap (λ (k : Checked). fw k.faults) (sym c.1);
+      looked_is = sym c.0 ∙ ap (λ (k : Checked). length k.looked) (sym c.1);
+      more_is = more ∙ ap (λ (k : Checked). k.more) (sym c.1);
     }
 
 -- where no more roots are kept than may be looked at, they are all
 all_are_kept : (ts rs : List Tile) → ts ≡ take (most_roots + 1) rs → length ts ≤ most_roots → ts ≡ rs
 all_are_kept ts rs is few = is ∙ take_all (most_roots + 1) rs (omega (arith, few, ap (length {A = Tile}) is, length-take (most_roots + 1) rs))
+
+-- the roots above the next level, where a turn goes on
+pub above_next : (s : Scene) (level next_level : ℕ) (roots : List ℕ) (looked : ℕ) (found : List FoundFault) (end : CheckEnd) → 1 ≤ s.layout.subtree_levels
+    → level % s.layout.subtree_levels ≡ 0 → next_level ≡ level + s.layout.subtree_levels → IsCheckedTo s level roots looked found → Counts looked (length roots) end → end.more ≡ false
+    → reached_above s next_level ≡ reached_above s level ++ map (word_tile s.layout.scheme) (take (end.looked - looked) roots)
+above_next s level next_level roots looked found end some start up is counts all =
+    let f = word_tile s.layout.scheme in
+    let count = counts.all all in
+    let tiles : map f roots ≡ walk_roots s (whole_of s) level = all_are_kept (map f roots) (walk_roots s (whole_of s) level) is.tiles (omega (arith, count, counts.few, length-map roots f)) in
+    let taken : take (end.looked - looked) roots ≡ roots = take_all (end.looked - looked) roots (omega (arith, count)) in
+    ap (reached_above s) up ∙ reached_go_down s level some start ∙ ap (λ ts. reached_above s level ++ ts) (sym tiles) ∙ ap (λ ws. reached_above s level ++ map f ws) (sym taken)
 
 -- a turn that goes on
 pub check_goes_on : (s : Scene) (level next_level : ℕ) (roots none next : List ℕ) (looked : ℕ) (found new : List FoundFault) (end : CheckEnd) → 1 ≤ s.layout.subtree_levels
@@ -175,6 +196,14 @@ check_is_all s level roots looked found end some high is few same more =
       looked_is = same ∙ is.count ∙ ap (length {A = Tile}) all ∙ ap (λ (k : Checked). length k.looked) (sym c);
       more_is = more ∙ ap (λ (k : Checked). k.more) (sym c);
     }
+
+-- the same, of the roots that are looked at
+pub above_all : (s : Scene) (level : ℕ) (roots : List ℕ) (looked : ℕ) (found : List FoundFault) → 1 ≤ s.layout.levels → s.layout.levels ≤ level
+    → IsCheckedTo s level roots looked found → looked ≤ most_roots → reached_above s level ≡ (checked s).looked
+above_all s level roots looked found some high is few =
+    let all = reached_are_all s level some high in
+    let c = checked_is_all s (omega (arith, few, is.count, ap (length {A = Tile}) all)) in
+    all ∙ ap (λ (k : Checked). k.looked) (sym c)
 
 -- before the first turn
 pub check_begins : (s : Scene) (scheme : Scheme) (roots : List ℕ) (level : ℕ) (found : List FoundFault) → scheme ≡ s.layout.scheme → 1 ≤ s.layout.levels → roots ≡ word scheme root 0 ∷ []

@@ -1,3 +1,4 @@
 pub mod Words
 pub mod Roots
 pub mod Checking
+pub mod Looking

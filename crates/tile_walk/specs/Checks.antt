@@ -1,6 +1,8 @@
 -- What a check of a whole tileset finds (this project's own).
-use Rattle.std.specs.Prelude.{ℕ, ◌≡◌, ◌+◌, ◌<◌, ◌≤◌, true, false, List, length, map}
+use Rattle.std.specs.Prelude.{ℕ, ◌≡◌, ◌+◌, ◌<◌, ◌≤◌, true, false, List, length, map, Option, IfSome}
 use Rattle.std.specs.List.{filter_map, All}
+use Rattle.implicit_tiling.specs.Files.{Files}
+use Rattle.implicit_tiling.specs.Tile.{Tile}
 use Rattle.implicit_tiling.specs.Region.{Region}
 use Rattle.implicit_tiling.specs.Scene.{Layout, Scene}
 use Rattle.implicit_tiling.specs.Answer.{is_on_walk, fault_at}
@@ -9,7 +11,9 @@ use Rattle.implicit_tiling.specs.Code.{word_tile}
 use Rattle.tile_coords.specs.declared.walk_end.FoundFault.{FoundFault}
 use Rattle.tile_coords.specs.declared.walk_end.CheckEnd.{CheckEnd}
 use Rattle.tile_coords.specs.Found.{found_of}
+use Rattle.implicit_tileset.specs.Scene.{scene_of}
 use Rattle.subtree_outcome.specs.Found.{IsFaultOf}
+use Rattle.subtree_outcome.specs.Fetched.{HasFetched}
 
 -- the faults of the files of some roots, in their order
 abbrev pub found_faults : Scene → List ℕ → List FoundFault
@@ -37,3 +41,11 @@ pub record IsCheck (s : Scene) (found : List FoundFault) (end : CheckEnd) : Type
   pub faults_are : found ≡ map (found_of s.layout.scheme) (checked s).faults
   pub looked_is : end.looked ≡ length (checked s).looked
   pub more_is : end.more ≡ (checked s).more
+
+-- the fetches of a check: those for as many roots as were looked at, which are the first that are reached where files
+-- are told
+pub record HasLookedAt (layout : Layout) (told : Option Files) (looked before now : ℕ) : Type 0 where
+  pub roots : List Tile
+  pub fetched : HasFetched layout told roots before now
+  pub as_many : length roots ≡ looked
+  pub of_scene : IfSome told (λ files. roots ≡ (checked (scene_of files layout)).looked)

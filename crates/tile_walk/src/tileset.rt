@@ -7,10 +7,11 @@ ghost use Rattle.implicit_tiling.specs.Subtree.{IsSubtree};
 ghost use Rattle.implicit_tiling.specs.Nodes.{child_words};
 ghost use Rattle.implicit_tiling.specs.Code.{word_level, word_tile};
 ghost use Rattle.implicit_tileset.specs.Scene.{scene_of};
-ghost use Rattle.scene_ports.specs.Counts.{Rose, one_more, more_by};
+ghost use Rattle.scene_ports.specs.Counts.{Rose};
 ghost use Rattle.walk_laws.specs.Children.{roots_below};
 ghost use Rattle.walk_laws.specs.Regions.{whole};
-ghost use Rattle.tile_walk.specs.Checks.{found_faults, Counts, IsOnWalk, IsCheck, AreFaults};
+ghost use Rattle.subtree_outcome.specs.Fetched.{HasFetched};
+ghost use Rattle.tile_walk.specs.Checks.{found_faults, Counts, IsOnWalk, IsCheck, AreFaults, HasLookedAt};
 ghost use Rattle.walk_laws.specs.Plans.{FitsLayout};
 ghost use Rattle.tile_word.specs.Roots.{IsRootWord, AreRoots};
 
@@ -31,7 +32,7 @@ const MOST_KEPT: usize = MOST_ROOTS as usize + 1;
 
 /// Looks at the subtree roots that are reached, in key order, up to 65,536 of them, each read once: `found` becomes the
 /// faults of their files, in that order. A faulty file has no roots below it (OGC 22-025r4, implicit tiling: child
-/// subtree availability). An Err leaves `found` as it was.
+/// subtree availability). It takes the fetches of these roots. An Err leaves `found` as it was.
 pub fn check_all<S: FileSource>(
     alloc: Global,
     files: &mut S,
@@ -46,7 +47,8 @@ pub fn check_all<S: FileSource>(
     ensures failed { result ≡ Err WalkStop.ReadFault → Rose (S.faults files.old) (S.faults files.new) }
     ensures sure { result ≢ Err WalkStop.ReadFault → S.faults files.new ≡ S.faults files.old }
     ensures later { S.faults files.old ≤ S.faults files.new }
-    ensures fetched { IfOk result (λ end. S.fetches files.new ≡ more_by end.looked (S.fetches files.old)) }
+    ensures fetched { IfOk result (λ end. HasLookedAt layout.now (S.told files.old) end.looked
+        (S.fetches files.old) (S.fetches files.new)) }
     ensures same { S.told files.new ≡ S.told files.old }
 {
     let plan = whole_plan(layout);
@@ -101,7 +103,8 @@ fn check<S: FileSource>(
     ensures failed { result ≡ Err WalkStop.ReadFault → Rose (S.faults files.old) (S.faults files.new) }
     ensures sure { result ≢ Err WalkStop.ReadFault → S.faults files.new ≡ S.faults files.old }
     ensures later { S.faults files.old ≤ S.faults files.new }
-    ensures fetched { IfOk result (λ end. S.fetches files.new ≡ more_by end.looked (S.fetches files.old)) }
+    ensures fetched { IfOk result (λ end. HasLookedAt layout.now (S.told files.old) end.looked
+        (S.fetches files.old) (S.fetches files.new)) }
     ensures same { S.told files.new ≡ S.told files.old }
 {
     let roots = first_roots(alloc, layout.scheme)?;
@@ -162,8 +165,9 @@ fn check_roots<S: FileSource>(
     ensures failed { result ≡ Err WalkStop.ReadFault → Rose (S.faults files.old) (S.faults files.new) }
     ensures sure { result ≢ Err WalkStop.ReadFault → S.faults files.new ≡ S.faults files.old }
     ensures later { S.faults files.old ≤ S.faults files.new }
-    ensures fetched { IfOk result (λ end. S.fetches files.new
-        ≡ more_by (end.looked - frontier.now.looked) (S.fetches files.old)) }
+    ensures fetched { IfOk result (λ end. HasFetched layout.now (S.told files.old)
+        (map (word_tile layout.now.scheme) (take (end.looked - frontier.now.looked) frontier.now.roots.items))
+        (S.fetches files.old) (S.fetches files.new)) }
     ensures same { S.told files.new ≡ S.told files.old }
 {
     let mut count = frontier.looked;
@@ -212,7 +216,8 @@ fn check_root<S: FileSource>(
     ensures failed { result ≡ Err WalkStop.ReadFault → Rose (S.faults files.old) (S.faults files.new) }
     ensures sure { result ≢ Err WalkStop.ReadFault → S.faults files.new ≡ S.faults files.old }
     ensures later { S.faults files.old ≤ S.faults files.new }
-    ensures fetched { IfOk result (λ done. S.fetches files.new ≡ one_more (S.fetches files.old)) }
+    ensures fetched { IfOk result (λ done. HasFetched layout.now (S.told files.old)
+        (word_tile layout.now.scheme root ∷ []) (S.fetches files.old) (S.fetches files.new)) }
     ensures same { S.told files.new ≡ S.told files.old }
 {
     let tile = root_tile(layout, root);

@@ -4,7 +4,7 @@ use Rattle.framed_walk.proofs.Turns.{has_room, none_waits, some_is_free, hit, br
 use Rattle.frame_pool.specs.declared.frame.Asked.TheVariants.{Hit, Granted}
 use Rattle.frame_pool.specs.Moves.{after_settle}
 use Rattle.subtree_outcome.specs.declared.outcome.Outcome.TheVariants.{Bad}
-use Rattle.subtree_outcome.proofs.Counting.{none_more}
+use Rattle.subtree_outcome.proofs.Fetching.{none_fetched}
 use Rattle.framed_walk.proofs.frames.hold.Goals as goal
 
 pub ask-requires : goal.ask-requires
@@ -38,7 +38,7 @@ returns-in-Hit-clause-turn g c = record {
   answer = c.in-Hit.ensures.answer;
   frame = refl;
   held = c.in-Hit.ensures.after;
-  fetched = sym (none_more _);
+  fetched = none_fetched c.args.layout.now (g.S.FileSource.told c.args.files.now) _;
 }
 
 pub returns-in-Ok-clause-turn : goal.returns-in-Ok-clause-turn

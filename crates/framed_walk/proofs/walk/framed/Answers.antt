@@ -21,6 +21,6 @@ pub returns-clause-fetched : goal.returns-clause-fetched
 returns-clause-fetched g c =
     let layout = c.args.layout.now in
     let fetched = c.in_ok-end.ensures.fetched in
-    let P : Frames ℕ Outcome → Type 0 = λ p. HasRead p fetched.0 c.walk.new.pool (g.S.FileSource.fetches c.args.files.now) (g.S.FileSource.fetches c.walk.new.files) in
+    let P : Frames ℕ Outcome → Type 0 = λ p. HasRead layout (g.S.FileSource.told c.args.files.now) p fetched.0 c.walk.new.pool (g.S.FileSource.fetches c.args.files.now) (g.S.FileSource.fetches c.walk.new.files) in
     let Q : Region → Type 0 = λ r. IfSome (g.S.FileSource.told c.args.files.now) (λ all. fetched.0 ≡ step_keys (scene_of all layout) r (length (steps (scene_of all layout) r))) in
     record { keys = fetched.0; last = c.walk.new.pool; read = subst P c.in_ok-pool.ensures fetched.1; of_steps = subst Q c.in_ok-cursor.ensures.of_layout.same_region fetched.2 }

@@ -36,7 +36,7 @@ loop-next-init g c =
       over = search rules;
       read = (
         [],
-        none_read c.args.pool.now _,
+        none_read layout (g.S.FileSource.told c.args.files.now) c.args.pool.now _,
         of_told (g.S.FileSource.told c.args.files.now) (λ files. IsAt (scene_of files layout) cursor.region 0 cursor) _
             (λ files at. record {
               walked = record { made = 0; at = at; next_is = c.next_key-next.ensures.scene (scene_of files layout) 0 at; words_are = c.requires.empty; end_is = refl };
@@ -100,7 +100,7 @@ loop-next-preserved g c =
           (ap cursor_key (sym c.in_ok-end.ensures.after) ∙ sym c.next_key-next-in-Some.ensures.key ∙ none);
       read = (
         keys ++ key ∷ [],
-        read_more c.args.pool.now keys c.loop-next.pool key c.in_ok-frame.frame c.hold.new.pool c.unpin.new.self _ _ _ inv.read.1 c.in_ok-frame.ensures.turn c.unpin.ensures.after,
+        read_more layout told (g.S.FileSource.told c.loop-next.files) c.args.pool.now keys c.loop-next.pool key c.in_ok-frame.frame c.hold.new.pool c.unpin.new.self _ _ _ inv.read.1 c.in_ok-frame.ensures.turn inv.same c.unpin.ensures.after,
         both_told told
             (λ files. IsWalkedBy (scene_of files layout) region cursor c.loop-next.next words c.loop-next.end keys)
             (λ files. (scene_of files layout).outcome (word_tile layout.scheme c.in-Some.key) ≡ outcome_seen c.look.result.now)

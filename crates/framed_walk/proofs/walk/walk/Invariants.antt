@@ -21,7 +21,7 @@ invariant-loop-next g l = record {
   found : AreTilesOf l.fn.layout l.words.items;
   end_is : EndsWithin l.fn.layout l.end;
   over : l.next ≡ None → l.end ≢ Partial;
-  read : (keys : List ℕ) × HasRead l.fn.pool keys l.pool (g.S.FileSource.fetches l.fn.files) (g.S.FileSource.fetches l.files)
+  read : (keys : List ℕ) × HasRead l.fn.layout (g.S.FileSource.told l.fn.files) l.fn.pool keys l.pool (g.S.FileSource.fetches l.fn.files) (g.S.FileSource.fetches l.files)
       × IfSome (g.S.FileSource.told l.fn.files) (λ all. IsWalkedBy (scene_of all l.fn.layout) l.fn.cursor.region l.cursor l.next l.words.items l.end keys);
   sure : g.S.FileSource.faults l.files ≡ g.S.FileSource.faults l.fn.files;
   later : g.S.FileSource.faults l.fn.files ≤ g.S.FileSource.faults l.files;

@@ -1,4 +1,4 @@
-use Rattle.std.proofs.Common.{◌≡◌, ◌+◌, length, ◌++◌, ◌∷◌, [], ◌∙◌, map, take, take_all, get_or, refl, sym, ap, subst, arith, append-nil}
+use Rattle.std.proofs.Common.{◌≡◌, ◌+◌, length, ◌++◌, ◌∷◌, [], ◌∙◌, map, take, drop, take_all, get_or, refl, sym, ap, subst, arith, append-nil}
 use Rattle.std.specs.List.{flat_map}
 use Rattle.std.proofs.lemmas.Grind.{get_or_default_zero}
 use Rattle.implicit_tiling.specs.Code.{word_tile}
@@ -7,9 +7,11 @@ use Rattle.tile_coords.specs.declared.walk_end.WalkEnd.{WalkEnd}
 use Rattle.tile_coords.specs.declared.walk_end.WalkEnd.TheVariants.{Partial}
 use Rattle.reference_walk.specs.Walks.{GoesOn, Walks, word_pair, next_roots}
 use Rattle.subtree_outcome.proofs.Reading.{both_told, of_told, told_same, told_always}
-use Rattle.subtree_outcome.proofs.Counting.{none_more, then_one, more_at_most, stays}
+use Rattle.subtree_outcome.proofs.Counting.{stays}
+use Rattle.subtree_outcome.proofs.Fetching.{none_fetched, fetched_together, fetched_of_first, few_fetched}
+use Rattle.tile_walk.proofs.Looking.{mapped_more}
 use Rattle.tile_walk.proofs.Roots.{one_next_more}
-use Rattle.reference_walk.proofs.Walks.{goes_nowhere, one_root_more, ends_in_level}
+use Rattle.reference_walk.proofs.Walks.{goes_nowhere, one_root_more, ends_in_level, in_two, few_first}
 use Rattle.reference_walk.proofs.level.walk_level.Goals as goal
 
 pub loop-root-init : goal.loop-root-init
@@ -23,7 +25,7 @@ loop-root-init g c =
       next = c.requires.next;
       later = omega arith;
       sure = refl;
-      fetched = sym (none_more _);
+      fetched = none_fetched layout told _;
       same = refl;
     }
 
@@ -59,7 +61,9 @@ loop-root-preserved g c =
       next = c.in_ok-end.ensures.next;
       later = omega (arith, c.loop-root.invariant.later, c.step.ensures.later);
       sure = stays c.step.result _ _ _ _ _ c.in_ok-end.was c.step.ensures.sure c.loop-root.invariant.sure;
-      fetched = then_one c.loop-root.root-index _ _ _ c.loop-root.invariant.fetched c.in_ok-end.ensures.fetched;
+      fetched = fetched_together layout (g.S.FileSource.told c.args.files.now) (g.S.FileSource.told c.loop-root.files) (map (word_tile layout.scheme) (take c.loop-root.root-index c.args.roots.now))
+          (word_tile layout.scheme root ∷ []) (map (word_tile layout.scheme) (take (c.loop-root.root-index + 1) c.args.roots.now)) _ _ _ c.loop-root.invariant.fetched c.in_ok-end.ensures.fetched
+          c.loop-root.invariant.same (mapped_more (word_tile layout.scheme) c.args.roots.now c.loop-root.root-index root (omega arith) at);
       same = c.step.ensures.same ∙ c.loop-root.invariant.same;
     }
 
@@ -81,15 +85,43 @@ returns-in_default-clause-walks g c =
 
 pub returns-in_default-clause-fetched : goal.returns-in_default-clause-fetched
 returns-in_default-clause-fetched g c =
-    let begin = g.S.FileSource.fetches c.args.files.now in
+    let layout = c.args.layout.now in
+    let tile = word_tile layout.scheme in
+    let roots = c.args.roots.now in
     let i = c.loop-root.root-index in
-    let now = then_one i begin _ _ c.loop-root.invariant.fetched c.in_ok-end.ensures.fetched in
-    omega (arith, now, more_at_most (i + 1) (length c.args.roots.now) begin (omega arith))
+    let root = c.root-item.result in
+    let at : root ≡ get_or roots i 0 = c.root-item.is ∙ get_or_default_zero roots i root (omega arith) in
+    let now = fetched_together layout (g.S.FileSource.told c.args.files.now) (g.S.FileSource.told c.loop-root.files) (map tile (take i roots)) (tile root ∷ []) (map tile (take (i + 1) roots)) _ _ _
+    c.loop-root.invariant.fetched c.in_ok-end.ensures.fetched c.loop-root.invariant.same (mapped_more tile roots i root (omega arith) at) in
+    fetched_of_first layout (g.S.FileSource.told c.args.files.now) (map tile (take (i + 1) roots)) (map tile (drop (i + 1) roots)) (map tile roots) _ _ now (in_two tile roots (i + 1))
+
+pub returns-in_default-clause-few : goal.returns-in_default-clause-few
+returns-in_default-clause-few g c =
+    let layout = c.args.layout.now in
+    let tile = word_tile layout.scheme in
+    let roots = c.args.roots.now in
+    let i = c.loop-root.root-index in
+    let root = c.root-item.result in
+    let at : root ≡ get_or roots i 0 = c.root-item.is ∙ get_or_default_zero roots i root (omega arith) in
+    let now = fetched_together layout (g.S.FileSource.told c.args.files.now) (g.S.FileSource.told c.loop-root.files) (map tile (take i roots)) (tile root ∷ []) (map tile (take (i + 1) roots)) _ _ _
+    c.loop-root.invariant.fetched c.in_ok-end.ensures.fetched c.loop-root.invariant.same (mapped_more tile roots i root (omega arith) at) in
+    few_fetched layout (g.S.FileSource.told c.args.files.now) (map tile (take (i + 1) roots)) (length roots) _ _ now (few_first tile roots (i + 1))
 
 pub returns-clause-fetched : goal.returns-clause-fetched
 returns-clause-fetched g c =
-    let begin = g.S.FileSource.fetches c.args.files.now in
-    omega (arith, c.loop-root.invariant.fetched, more_at_most c.loop-root.root-index (length c.args.roots.now) begin (omega arith))
+    let layout = c.args.layout.now in
+    let tile = word_tile layout.scheme in
+    let roots = c.args.roots.now in
+    let i = c.loop-root.root-index in
+    fetched_of_first layout (g.S.FileSource.told c.args.files.now) (map tile (take i roots)) (map tile (drop i roots)) (map tile roots) _ _ c.loop-root.invariant.fetched (in_two tile roots i)
+
+pub returns-clause-few : goal.returns-clause-few
+returns-clause-few g c =
+    let layout = c.args.layout.now in
+    let tile = word_tile layout.scheme in
+    let roots = c.args.roots.now in
+    let i = c.loop-root.root-index in
+    few_fetched layout (g.S.FileSource.told c.args.files.now) (map tile (take i roots)) (length roots) _ _ c.loop-root.invariant.fetched (few_first tile roots i)
 
 pub returns-in_default-clause-roots : goal.returns-in_default-clause-roots
 returns-in_default-clause-roots g c = told_always (g.S.FileSource.told c.args.files.now) _ (λ all goes. absurd (c.in_default.not-Partial goes))

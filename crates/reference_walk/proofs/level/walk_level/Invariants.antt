@@ -3,7 +3,7 @@ use Rattle.std.specs.Prelude.{IfSome}
 use Rattle.std.specs.List.{flat_map}
 use Rattle.implicit_tiling.specs.Code.{word_tile}
 use Rattle.implicit_tileset.specs.Scene.{scene_of}
-use Rattle.scene_ports.specs.Counts.{more_by}
+use Rattle.subtree_outcome.specs.Fetched.{HasFetched}
 use Rattle.tile_word.specs.Roots.{AreRoots}
 use Rattle.subtree_outcome.specs.Found.{AreTilesOf}
 use Rattle.reference_walk.specs.Walks.{GoesOn, word_pair, next_roots}
@@ -20,6 +20,6 @@ invariant-loop-root g l = record {
   next : AreRoots l.fn.layout (l.fn.level + 1) l.found.next.items;
   later : g.S.FileSource.faults l.fn.files ≤ g.S.FileSource.faults l.files;
   sure : g.S.FileSource.faults l.files ≡ g.S.FileSource.faults l.fn.files;
-  fetched : g.S.FileSource.fetches l.files ≡ more_by l.root-index (g.S.FileSource.fetches l.fn.files);
+  fetched : HasFetched l.fn.layout (g.S.FileSource.told l.fn.files) (map (word_tile l.fn.layout.scheme) (take l.root-index l.fn.roots)) (g.S.FileSource.fetches l.fn.files) (g.S.FileSource.fetches l.files);
   same : g.S.FileSource.told l.files ≡ g.S.FileSource.told l.fn.files;
 }

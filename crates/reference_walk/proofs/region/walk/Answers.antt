@@ -12,7 +12,8 @@ use Rattle.tile_coords.specs.declared.walk_end.WalkEnd.{WalkEnd}
 use Rattle.tile_coords.specs.declared.walk_end.WalkEnd.TheVariants.{Partial}
 use Rattle.tile_word.specs.Roots.{AreRoots}
 use Rattle.subtree_outcome.specs.Found.{IsTileWord, AreTileWords}
-use Rattle.reference_walk.specs.Walks.{GoesOn, Walks, word_pair, next_roots, is_last, frontier_if, IsWalked}
+use Rattle.subtree_outcome.specs.Fetched.{cost_of_all}
+use Rattle.reference_walk.specs.Walks.{cost_of_pairs, GoesOn, Walks, word_pair, next_roots, is_last, frontier_if, IsWalked}
 use Rattle.subtree_outcome.proofs.Reading.{both_told, three_told, of_told, told_same, told_always}
 use Rattle.subtree_outcome.proofs.Counting.{stays}
 use Rattle.reference_walk.proofs.Walks.{one_level_more, answer_at_level, complete_answer, read_one_level, read_at_most}
@@ -107,10 +108,12 @@ loop-level-preserved g c =
       none = ap (λ v. v.items) c.replace-next.ensures.after ∙ c.new.ensures.items;
       later = omega (arith, c.loop-level.invariant.later, c.walk_level.ensures.later);
       sure = stays c.walk_level.result _ _ _ _ _ c.in_ok-end.was c.walk_level.ensures.sure c.loop-level.invariant.sure;
-      fetched = both_told (g.S.FileSource.told c.args.files.now) (λ all. IsAt (scene_of all layout) region level roots words)
-          (λ all. g.S.FileSource.fetches c.loop-level.files ≤ more_by (length (pairs_above (scene_of all layout) region level)) (g.S.FileSource.fetches c.args.files.now)) _
-          (λ all at so. read_one_level (scene_of all layout) region level roots c.deref.result.now _ _ _ c.deref.ensures.value at.tiles so c.in_ok-end.ensures.fetched)
-          c.loop-level.invariant.at c.loop-level.invariant.fetched;
+      fetched = three_told (g.S.FileSource.told c.args.files.now) (λ all. IsAt (scene_of all layout) region level roots words)
+          (λ all. g.S.FileSource.fetches c.loop-level.files ≤ more_by (cost_of_pairs all layout (pairs_above (scene_of all layout) region level)) (g.S.FileSource.fetches c.args.files.now))
+          (λ all. g.S.FileSource.fetches c.walk_level.new.files ≤ more_by (cost_of_all all layout (map (word_tile layout.scheme) c.deref.result.now)) (g.S.FileSource.fetches c.loop-level.files)) _
+          (λ all at so more. read_one_level all (scene_of all layout) region level roots c.deref.result.now _ _ _ c.deref.ensures.value at.tiles so more)
+          c.loop-level.invariant.at c.loop-level.invariant.fetched
+          (told_same (g.S.FileSource.told c.loop-level.files) (g.S.FileSource.told c.args.files.now) _ c.loop-level.invariant.same c.in_ok-end.ensures.fetched);
       same = c.walk_level.ensures.same ∙ c.loop-level.invariant.same;
     }
 
@@ -120,12 +123,14 @@ returns-in_default-clause-fetched g c =
     let region = c.args.region.now in
     let level = c.loop-level.level in
     let same = ap (λ (r : Region). r.level) c.region.view_is in
-    both_told (g.S.FileSource.told c.args.files.now) (λ all. IsAt (scene_of all layout) region level c.loop-level.roots.items c.loop-level.found.words.items)
-    (λ all. g.S.FileSource.fetches c.loop-level.files ≤ more_by (length (pairs_above (scene_of all layout) region level)) (g.S.FileSource.fetches c.args.files.now)) _
-    (λ all at so. let s = scene_of all layout in
-    read_at_most s region (level + 1) _ _ (omega (arith, c.loop-level-test.true, same))
-    (read_one_level s region level c.loop-level.roots.items c.deref.result.now _ _ _ c.deref.ensures.value at.tiles so c.in_ok-end.ensures.fetched))
+    three_told (g.S.FileSource.told c.args.files.now) (λ all. IsAt (scene_of all layout) region level c.loop-level.roots.items c.loop-level.found.words.items)
+    (λ all. g.S.FileSource.fetches c.loop-level.files ≤ more_by (cost_of_pairs all layout (pairs_above (scene_of all layout) region level)) (g.S.FileSource.fetches c.args.files.now))
+    (λ all. g.S.FileSource.fetches c.walk_level.new.files ≤ more_by (cost_of_all all layout (map (word_tile layout.scheme) c.deref.result.now)) (g.S.FileSource.fetches c.loop-level.files)) _
+    (λ all at so more. let s = scene_of all layout in
+    read_at_most all s region (level + 1) _ _ (omega (arith, c.loop-level-test.true, same))
+    (read_one_level all s region level c.loop-level.roots.items c.deref.result.now _ _ _ c.deref.ensures.value at.tiles so more))
     c.loop-level.invariant.at c.loop-level.invariant.fetched
+    (told_same (g.S.FileSource.told c.loop-level.files) (g.S.FileSource.told c.args.files.now) _ c.loop-level.invariant.same c.in_ok-end.ensures.fetched)
 
 pub returns-clause-fetched : goal.returns-clause-fetched
 returns-clause-fetched g c =
@@ -133,8 +138,8 @@ returns-clause-fetched g c =
     let region = c.args.region.now in
     let same = ap (λ (r : Region). r.level) c.region.view_is in
     of_told (g.S.FileSource.told c.args.files.now)
-    (λ all. g.S.FileSource.fetches c.loop-level.files ≤ more_by (length (pairs_above (scene_of all layout) region c.loop-level.level)) (g.S.FileSource.fetches c.args.files.now)) _
-    (λ all so. read_at_most (scene_of all layout) region c.loop-level.level _ _ (omega (arith, c.loop-level-test.false, c.loop-level.auto.level-end, same)) so)
+    (λ all. g.S.FileSource.fetches c.loop-level.files ≤ more_by (cost_of_pairs all layout (pairs_above (scene_of all layout) region c.loop-level.level)) (g.S.FileSource.fetches c.args.files.now)) _
+    (λ all so. read_at_most all (scene_of all layout) region c.loop-level.level _ _ (omega (arith, c.loop-level-test.false, c.loop-level.auto.level-end, same)) so)
     c.loop-level.invariant.fetched
 
 pub returns-clause-answer : goal.returns-clause-answer

@@ -1,4 +1,4 @@
-use Rattle.std.proofs.Common.{◌≡◌, ◌≤◌, [], length}
+use Rattle.std.proofs.Common.{◌≡◌, ◌≤◌, []}
 use Rattle.std.specs.Prelude.{IfSome}
 use Rattle.implicit_tiling.specs.Steps.{root_level}
 use Rattle.implicit_tileset.specs.Scene.{scene_of}
@@ -6,6 +6,7 @@ use Rattle.scene_ports.specs.Counts.{more_by}
 use Rattle.walk_laws.specs.Pairs.{pairs_above}
 use Rattle.tile_word.specs.Roots.{AreRoots}
 use Rattle.subtree_outcome.specs.Found.{AreTilesOf}
+use Rattle.reference_walk.specs.Walks.{cost_of_pairs}
 use Rattle.reference_walk.proofs.Frontier.{IsAt}
 use Rattle.reference_walk.proofs.region.walk.Given as goal
 
@@ -18,6 +19,6 @@ invariant-loop-level g l = record {
   later : g.S.FileSource.faults l.fn.files ≤ g.S.FileSource.faults l.files;
   sure : g.S.FileSource.faults l.files ≡ g.S.FileSource.faults l.fn.files;
   fetched : IfSome (g.S.FileSource.told l.fn.files)
-      (λ all. g.S.FileSource.fetches l.files ≤ more_by (length (pairs_above (scene_of all l.fn.layout) l.fn.region l.level)) (g.S.FileSource.fetches l.fn.files));
+      (λ all. g.S.FileSource.fetches l.files ≤ more_by (cost_of_pairs all l.fn.layout (pairs_above (scene_of all l.fn.layout) l.fn.region l.level)) (g.S.FileSource.fetches l.fn.files));
   same : g.S.FileSource.told l.files ≡ g.S.FileSource.told l.fn.files;
 }

@@ -7,7 +7,6 @@ use Rattle.implicit_tiling.specs.Code.{word_tile}
 use Rattle.implicit_tiling.specs.Region.{Region}
 use Rattle.implicit_tiling.specs.Scene.{Layout}
 use Rattle.implicit_tileset.specs.Scene.{scene_of}
-use Rattle.scene_ports.specs.Counts.{more_by}
 use Rattle.tile_coords.specs.declared.walk_end.CheckEnd.{CheckEnd}
 use Rattle.tile_coords.specs.declared.walk_end.FoundFault.{FoundFault}
 use Rattle.std.proofs.lemmas.List.Elements.{All-nil}
@@ -15,9 +14,10 @@ use Rattle.walk_laws.specs.Children.{roots_below}
 use Rattle.walk_laws.specs.Frontiers.{whole_of}
 use Rattle.tile_walk.specs.Checks.{IsOnWalk, found_faults, IsFault, AreFaults}
 use Rattle.subtree_outcome.proofs.Reading.{both_told, three_told, of_told, told_same, told_always}
-use Rattle.subtree_outcome.proofs.Counting.{none_more, then_more, stays}
+use Rattle.subtree_outcome.proofs.Counting.{stays}
 use Rattle.tile_walk.proofs.Roots.{kept_on_walk, first_roots_are}
 use Rattle.tile_walk.proofs.Checking.{IsCheckedTo, check_begins, check_is_cut, check_goes_on, check_is_all, roots_at}
+use Rattle.tile_walk.proofs.Looking.{looked_at_none, looked_at_more, looked_at_cut, looked_at_all}
 use Rattle.tile_walk.proofs.tileset.check.Goals as goal
 
 -- a level where subtrees begin
@@ -45,19 +45,17 @@ loop-turn-init g c =
       few = omega arith;
       later = omega arith;
       sure = refl;
-      fetched = sym (none_more _);
+      fetched = looked_at_none layout (g.S.FileSource.told c.args.files.now) _ _ (omega arith);
       same = refl;
     }
 
--- the fetches of a turn, after those of the turns before it
-counted_to : (looked : ℕ) (end : CheckEnd) (begin mid now : ℕ) → mid ≡ more_by looked begin → now ≡ more_by (end.looked - looked) mid → looked ≤ end.looked → now ≡ more_by end.looked begin
-counted_to looked end begin mid now so more some =
-    let all : looked + (end.looked - looked) ≡ end.looked = omega (arith, some) in
-    then_more (end.looked - looked) looked begin mid now so more ∙ ap (λ n. more_by n begin) all
-
 pub returns-then-end-clause-fetched : goal.returns-then-end-clause-fetched
 returns-then-end-clause-fetched g c =
-    counted_to c.loop-turn.frontier.looked c.in_ok-end.end _ _ _ c.loop-turn.invariant.fetched c.in_ok-end.ensures.fetched c.in_ok-end.ensures.counted.some
+    let layout = c.args.layout.now in
+    let level = c.loop-turn.frontier.turn * layout.subtree_levels in
+    let roots = c.loop-turn.frontier.roots.items in
+    looked_at_cut layout (g.S.FileSource.told c.args.files.now) (g.S.FileSource.told c.loop-turn.files) level roots roots c.loop-turn.frontier.looked c.loop-turn.found.items c.in_ok-end.end _ _ _
+    c.loop-turn.invariant.roots_are refl c.in_ok-end.ensures.counted c.if-end.true c.loop-turn.invariant.at c.loop-turn.invariant.fetched c.in_ok-end.ensures.fetched c.loop-turn.invariant.same
 
 pub check_roots-requires-clause-on_walk : goal.check_roots-requires-clause-on_walk
 check_roots-requires-clause-on_walk g c =
@@ -122,7 +120,8 @@ loop-turn-preserved g c =
       few = c.in_ok-end.ensures.counted.few;
       later = omega (arith, c.loop-turn.invariant.later, c.check_roots.ensures.later);
       sure = stays c.check_roots.result _ _ _ _ _ c.in_ok-end.was c.check_roots.ensures.sure c.loop-turn.invariant.sure;
-      fetched = counted_to c.loop-turn.frontier.looked end _ _ _ c.loop-turn.invariant.fetched c.in_ok-end.ensures.fetched c.in_ok-end.ensures.counted.some;
+      fetched = looked_at_more layout (g.S.FileSource.told c.args.files.now) (g.S.FileSource.told c.loop-turn.files) level ((turn + 1) * layout.subtree_levels) roots roots looked old end _ _ _
+          some (starts c.loop-turn.frontier.turn layout.subtree_levels some) up refl c.in_ok-end.ensures.counted c.if-end.false c.loop-turn.invariant.at c.loop-turn.invariant.fetched c.in_ok-end.ensures.fetched c.loop-turn.invariant.same;
       same = c.check_roots.ensures.same ∙ c.loop-turn.invariant.same;
     }
 
@@ -138,3 +137,14 @@ returns-clause-checked g c =
     of_told (g.S.FileSource.told c.args.files.now) (λ all. IsCheckedTo (scene_of all layout) level c.loop-turn.frontier.roots.items c.loop-turn.frontier.looked c.loop-turn.found.items) _
     (λ all at. check_is_all (scene_of all layout) level c.loop-turn.frontier.roots.items c.loop-turn.frontier.looked c.loop-turn.found.items (record { looked = c.loop-turn.frontier.looked; more = false })
     some_levels high at c.loop-turn.invariant.few refl refl) c.loop-turn.invariant.at
+
+pub returns-clause-fetched : goal.returns-clause-fetched
+returns-clause-fetched g c =
+    let layout = c.args.layout.now in
+    let level = c.loop-turn.frontier.turn * layout.subtree_levels in
+    let subtree_levels = ap (λ (l : Layout). l.subtree_levels) c.layout.view_is in
+    let levels = ap (λ (l : Layout). l.levels) c.layout.view_is in
+    let some : 1 ≤ layout.subtree_levels = omega (arith, subtree_levels, c.layout.invariant.some_subtree_levels) in
+    let some_levels : 1 ≤ layout.levels = omega (arith, levels, c.layout.invariant.some_levels) in
+    let high : layout.levels ≤ level = all_turns c.loop-turn.frontier.turn layout.levels layout.subtree_levels some (omega (arith, levels, c.loop-turn-test.false, c.loop-turn.invariant.turn_is)) in
+    looked_at_all layout (g.S.FileSource.told c.args.files.now) level c.loop-turn.frontier.roots.items c.loop-turn.frontier.looked c.loop-turn.found.items _ _ some_levels high c.loop-turn.invariant.few c.loop-turn.invariant.at c.loop-turn.invariant.fetched

@@ -2,10 +2,10 @@ use Rattle.std.proofs.Common.{◌≡◌, ◌*◌, ◌≤◌}
 use Rattle.std.specs.Prelude.{IfSome}
 use Rattle.implicit_tiling.specs.Checked.{most_roots}
 use Rattle.implicit_tileset.specs.Scene.{scene_of}
-use Rattle.scene_ports.specs.Counts.{more_by}
 use Rattle.tile_word.specs.Roots.{AreRoots}
 use Rattle.tile_walk.specs.Checks.{AreFaults}
 use Rattle.tile_walk.proofs.Checking.{IsCheckedTo}
+use Rattle.tile_walk.proofs.Looking.{HasLookedTo}
 use Rattle.tile_walk.proofs.tileset.check.Given as goal
 
 abbrev pub invariant-loop-turn : goal.invariant-loop-turn
@@ -18,6 +18,6 @@ invariant-loop-turn g l = record {
   few : l.frontier.looked ≤ most_roots;
   later : g.S.FileSource.faults l.fn.files ≤ g.S.FileSource.faults l.files;
   sure : g.S.FileSource.faults l.files ≡ g.S.FileSource.faults l.fn.files;
-  fetched : g.S.FileSource.fetches l.files ≡ more_by l.frontier.looked (g.S.FileSource.fetches l.fn.files);
+  fetched : HasLookedTo l.fn.layout (g.S.FileSource.told l.fn.files) (l.frontier.turn * l.fn.layout.subtree_levels) l.frontier.looked (g.S.FileSource.fetches l.fn.files) (g.S.FileSource.fetches l.files);
   same : g.S.FileSource.told l.files ≡ g.S.FileSource.told l.fn.files;
 }

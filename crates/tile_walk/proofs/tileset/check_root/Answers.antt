@@ -8,6 +8,7 @@ use Rattle.subtree_outcome.specs.Outcomes.{outcome_seen}
 use Rattle.tile_walk.specs.Checks.{IsOnWalk}
 use Rattle.subtree_outcome.proofs.Reading.{both_told, of_told}
 use Rattle.tile_walk.proofs.Checking.{one_fault, no_next, next_by_words, next_are_roots}
+use Rattle.subtree_outcome.proofs.Fetching.{fetched_at}
 use Rattle.tile_walk.proofs.tileset.check_root.Goals as goal
 
 pub returns-in_ok-note-in-Bad-clause-found : goal.returns-in_ok-note-in-Bad-clause-found
@@ -46,3 +47,11 @@ pub returns-in_ok-append_roots-in-Good-clause-kept : goal.returns-in_ok-append_r
 returns-in_ok-append_roots-in-Good-clause-kept g c =
     let all = c.args.next.now.items ++ child_words c.in-Good.subtree c.args.region.now in
     omega (arith, ap (length {A = ℕ}) c.in_ok-append_roots-in-Good.ensures.appended, length-take (most_roots + 1) all)
+
+pub returns-in_ok-note-in-Bad-clause-fetched : goal.returns-in_ok-note-in-Bad-clause-fetched
+returns-in_ok-note-in-Bad-clause-fetched g c =
+    fetched_at c.args.layout.now (g.S.FileSource.told c.args.files.now) c.root_tile-tile.result _ _ _ c.root_tile-tile.ensures.tile c.in_ok-number.ensures.fetched
+
+pub returns-in_ok-append_roots-in-Good-clause-fetched : goal.returns-in_ok-append_roots-in-Good-clause-fetched
+returns-in_ok-append_roots-in-Good-clause-fetched g c =
+    fetched_at c.args.layout.now (g.S.FileSource.told c.args.files.now) c.root_tile-tile.result _ _ _ c.root_tile-tile.ensures.tile c.in_ok-number.ensures.fetched

@@ -1,4 +1,4 @@
-use Rattle.std.proofs.Common.{◌≡◌, ◌<◌, ◌+◌, ◌*◌, ◌∙◌, ◌++◌, ◌∷◌, ◌≤◌, ℕ, List, [], length, map, take, take_all, get_or, refl, ap, subst, sym, arith, append-nil}
+use Rattle.std.proofs.Common.{◌≡◌, ◌<◌, ◌+◌, ◌-◌, ◌*◌, ◌∙◌, ◌++◌, ◌∷◌, ◌≤◌, ℕ, List, [], length, map, take, take_all, get_or, refl, ap, subst, sym, arith, append-nil}
 use Rattle.std.proofs.lemmas.List.{length-map}
 use Rattle.std.specs.List.{flat_map, All}
 use Rattle.std.proofs.lemmas.Grind.{get_or_default_zero}
@@ -9,9 +9,11 @@ use Rattle.implicit_tileset.specs.Scene.{scene_of}
 use Rattle.walk_laws.specs.Children.{roots_below}
 use Rattle.tile_walk.specs.Checks.{IsOnWalk, found_faults}
 use Rattle.subtree_outcome.proofs.Reading.{both_told, of_told, told_same, told_always}
-use Rattle.subtree_outcome.proofs.Counting.{none_more, then_one, stays}
+use Rattle.subtree_outcome.proofs.Counting.{stays}
+use Rattle.subtree_outcome.proofs.Fetching.{none_fetched, fetched_together}
 use Rattle.tile_walk.proofs.Roots.{one_kept_more}
 use Rattle.tile_walk.proofs.Checking.{found_faults-more, roots_at}
+use Rattle.tile_walk.proofs.Looking.{mapped_more, fetched_for}
 use Rattle.tile_walk.proofs.tileset.check_roots.Goals as goal
 
 -- what is kept of no more roots
@@ -32,7 +34,7 @@ loop-root-init g c =
       faults_are = c.requires.faults;
       later = omega arith;
       sure = refl;
-      fetched = sym (none_more _);
+      fetched = none_fetched layout told _;
       same = refl;
     }
 
@@ -91,7 +93,8 @@ loop-root-preserved g c =
       faults_are = c.in_ok-check_root.ensures.faults;
       later = omega (arith, c.loop-root.invariant.later, c.check_root.ensures.later);
       sure = stays c.check_root.result _ _ _ _ _ c.in_ok-check_root.was c.check_root.ensures.sure c.loop-root.invariant.sure;
-      fetched = then_one c.loop-root.root-index _ _ _ c.loop-root.invariant.fetched c.in_ok-check_root.ensures.fetched;
+      fetched = fetched_together layout (g.S.FileSource.told c.args.files.now) (g.S.FileSource.told c.loop-root.files) (map f (take i roots)) (f root ∷ []) (map f (take (i + 1) roots)) _ _ _
+          c.loop-root.invariant.fetched c.in_ok-check_root.ensures.fetched c.loop-root.invariant.same (mapped_more f roots i root (omega arith) at);
       same = c.check_root.ensures.same ∙ c.loop-root.invariant.same;
     }
 
@@ -105,3 +108,13 @@ returns-clause-roots g c =
     (λ all on goes. on
     ∙ ap (λ ws. take (most_roots + 1) (map f c.args.next.now.items ++ flat_map (λ w. roots_below (scene_of all layout) c.args.region.now (f w)) ws)) (take_all _ _ (omega (arith, ap (length {A = ℕ}) c.deref-root-items.ensures.value))))
     c.loop-root.invariant.roots_on
+
+pub returns-clause-fetched : goal.returns-clause-fetched
+returns-clause-fetched g c =
+    let layout = c.args.layout.now in
+    fetched_for layout (g.S.FileSource.told c.args.files.now) (word_tile layout.scheme) c.args.frontier.now.roots.items c.loop-root.root-index (c.loop-root.count - c.args.frontier.now.looked) _ _ (omega (arith, c.loop-root.invariant.count_is)) c.loop-root.invariant.fetched
+
+pub returns-then-count-eq-MOST_ROOTS-clause-fetched : goal.returns-then-count-eq-MOST_ROOTS-clause-fetched
+returns-then-count-eq-MOST_ROOTS-clause-fetched g c =
+    let layout = c.args.layout.now in
+    fetched_for layout (g.S.FileSource.told c.args.files.now) (word_tile layout.scheme) c.args.frontier.now.roots.items c.loop-root.root-index (c.loop-root.count - c.args.frontier.now.looked) _ _ (omega (arith, c.loop-root.invariant.count_is)) c.loop-root.invariant.fetched

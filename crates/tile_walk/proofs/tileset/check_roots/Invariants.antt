@@ -4,7 +4,7 @@ use Rattle.std.specs.List.{flat_map}
 use Rattle.implicit_tiling.specs.Checked.{most_roots}
 use Rattle.implicit_tiling.specs.Code.{word_tile}
 use Rattle.implicit_tileset.specs.Scene.{scene_of}
-use Rattle.scene_ports.specs.Counts.{more_by}
+use Rattle.subtree_outcome.specs.Fetched.{HasFetched}
 use Rattle.walk_laws.specs.Children.{roots_below}
 use Rattle.tile_word.specs.Roots.{AreRoots}
 use Rattle.tile_walk.specs.Checks.{found_faults, AreFaults}
@@ -24,6 +24,6 @@ invariant-loop-root g l = record {
   faults_are : AreFaults l.fn.layout l.found.items;
   later : g.S.FileSource.faults l.fn.files ≤ g.S.FileSource.faults l.files;
   sure : g.S.FileSource.faults l.files ≡ g.S.FileSource.faults l.fn.files;
-  fetched : g.S.FileSource.fetches l.files ≡ more_by l.root-index (g.S.FileSource.fetches l.fn.files);
+  fetched : HasFetched l.fn.layout (g.S.FileSource.told l.fn.files) (map (word_tile l.fn.layout.scheme) (take l.root-index l.fn.frontier.roots.items)) (g.S.FileSource.fetches l.fn.files) (g.S.FileSource.fetches l.files);
   same : g.S.FileSource.told l.files ≡ g.S.FileSource.told l.fn.files;
 }

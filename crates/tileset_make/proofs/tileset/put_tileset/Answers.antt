@@ -13,6 +13,7 @@ use Rattle.tileset_make.proofs.Names.{not_made}
 use Rattle.tileset_make.proofs.Counts.{length-tileset_files, few_roots}
 use Rattle.tile_builder.proofs.Putting.{told_weaker}
 use Rattle.tileset_make.proofs.Puts.{told_twice, told_put, put_last, stopped_before, stopped_at_last, err_exit}
+use Rattle.tile_builder.proofs.Holding.{same_whole}
 use Rattle.tileset_make.proofs.Scenes.{still_hold, layout_read}
 use Rattle.tileset_make.proofs.tileset.put_tileset.Goals as goal
 
@@ -81,10 +82,15 @@ returns-clause-holds g c =
     let mid = g.K.FileKeeper.kept c.build.new.keeper in
     let now = g.K.FileKeeper.kept c.put_layout.new.keeper in
     let name = codes "tileset.json" in
-    told_twice before mid now (λ first last. HoldsTiles (scene_of last layout) words) (λ first last. Puts name (layout_text layout) first last Kept)
+    told_twice before mid now (ArePut (made_files layout words)) (λ first last. Puts name (layout_text layout) first last Kept)
     (λ first last. HoldsTiles (scene_of last layout) words)
-    (λ first between last holds also. still_hold layout name words between last c.requires.apart also.1 holds)
-    c.in_ok-built.ensures.holds (told_put name (layout_text layout) mid now Kept c.in_ok-put_layout.ensures.put)
+    (λ first between last put also. still_hold layout name words first between last
+    (record {
+      limits = c.requires.layout.limits;
+      whole = same_whole c.args.occupancy.now.scheme layout.scheme c.args.occupancy.now.levels layout.levels words c.requires.scheme c.requires.levels c.words.ensures.whole;
+      masks = c.requires.masks;
+    }) c.requires.names c.requires.apart put also.1)
+    c.in_ok-built.ensures.kept (told_put name (layout_text layout) mid now Kept c.in_ok-put_layout.ensures.put)
 
 pub returns-clause-files : goal.returns-clause-files
 returns-clause-files g c = ap (λ n. n + 1) c.in_ok-built.ensures.files ∙ sym (length-tileset_files c.args.layout.now c.args.occupancy.now.words)
