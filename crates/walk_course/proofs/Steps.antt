@@ -31,7 +31,7 @@ use Rattle.subtree_outcome.proofs.Orphans.{files_have_none}
 use Rattle.region_cursor.specs.Cursor.{Cursor, cursor_key, next_root, local_level_of, Fits as FitsStep, IsRootKey, IsWalkOf, IsSameWalk}
 use Rattle.region_cursor.specs.Moves.{moved_on, end_by_key, room, made_by, made}
 use Rattle.region_cursor.specs.Walked.{IsAt, IsNextKey, GivesStep}
-use Rattle.region_cursor.proofs.Callers.{walk_stays, next_root_of_key, outcome_fits, words_of_the_layout, key_is, key_is_of_a_root_tile}
+use Rattle.region_cursor.proofs.Callers.{walk_stays, next_root_of_key, outcome_fits, words_of_the_layout, key_is}
 use Rattle.region_cursor.proofs.Joined.{leaves_after}
 use Rattle.walk_course.specs.Walk.{Walk, GoesOn, IsPaused, IsReadFor}
 use Rattle.walk_course.specs.Course.{IsAnswerWord, IsAfter, IsHead, Fits, IsNextRoot, IsToldFor, MakesStep}
@@ -51,7 +51,7 @@ if_both (Some x) P Q p q = (p, q)
 next_root_in : (tag : WalkTag) (k n : ℕ) (e : WalkEnd) (w : Walk) (key : ℕ) → IsRootKey w.state key
     → ((s : Scene) (j : ℕ) → IsAt s w.state.region j w.state → IsNextKey s w.state.region j (Some key)) → Fits tag k n e w → IsNextRoot tag k key
 next_root_in tag k n e w key root follow fits = record {
-  of_layout = key_is_of_a_root_tile tag.layout tag.region w.state key fits.of_plan root;
+  of_layout = key_is tag.layout tag.region w.state key fits.of_plan root;
   of_steps = if_told tag.told (λ all. IsAt (scene_of all tag.layout) tag.region k w.state) (λ all. IsNextKey (scene_of all tag.layout) tag.region k (Some key))
       (λ all at. let s = scene_of all tag.layout in
       subst (λ (r : Region). IsNextKey s r k (Some key)) fits.of_plan.same_region (follow s k (subst (λ (r : Region). IsAt s r k w.state) (sym fits.of_plan.same_region) at)))

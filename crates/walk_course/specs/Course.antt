@@ -4,12 +4,12 @@ use Rattle.std.specs.Prelude.{ℕ, ◌≡◌, ◌+◌, ◌<◌, ◌≤◌, ◌^�
 use Rattle.std.specs.List.{flat_map}
 use Rattle.implicit_tiling.specs.Region.{Region}
 use Rattle.implicit_tiling.specs.Scene.{Scene}
-use Rattle.implicit_tiling.specs.Code.{tile_word, word_tile}
-use Rattle.implicit_tiling.specs.Availability.{IsRootOf}
+use Rattle.implicit_tiling.specs.Code.{tile_word, word_level}
 use Rattle.implicit_tiling.specs.Answer.{most_tiles, answer}
 use Rattle.implicit_tiling.specs.Steps.{partial, steps}
 use Rattle.implicit_tileset.specs.Scene.{scene_of}
 use Rattle.walk_laws.specs.Stepped.{last_end}
+use Rattle.tile_word.specs.Roots.{IsRootWord}
 use Rattle.tile_coords.specs.Ends.{end_seen}
 use Rattle.tile_coords.specs.declared.walk_end.WalkEnd.{WalkEnd}
 use Rattle.tile_coords.specs.declared.walk_end.WalkEnd.TheVariants.{Partial}
@@ -56,7 +56,7 @@ pub record Fits (tag : WalkTag) (made count : ℕ) (end : WalkEnd) (w : Walk) : 
 
 -- the word of a root of the layout; and where files are told, that of the next step
 pub record IsNextRoot (tag : WalkTag) (made key : ℕ) : Type 0 where
-  pub of_layout : IsRootOf tag.layout (word_tile tag.layout.scheme key)
+  pub of_layout : IsRootWord tag.layout (word_level key) key
   pub of_steps : IfSome tag.told (λ all. IsNextKey (scene_of all tag.layout) tag.region made (Some key))
 
 -- what was read of the next root's file is what the files say, where they are told

@@ -6,10 +6,12 @@
 
 mod course;
 mod paused;
+mod planned;
 mod publish;
 mod tag;
 
 pub use course::PlanWalk;
 pub use paused::Paused;
-pub use publish::{Advanced, advance, begin, publish_next};
+pub use planned::WalkScene;
+pub use publish::{begin, publish_next};
 pub use tag::WalkTag;

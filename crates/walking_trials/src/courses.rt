@@ -7,7 +7,8 @@ ghost use Rattle.walk_laws.specs.Plans.{FitsLayout};
 
 use availability::{Subtree, nodes_above};
 use bitstream::Bits;
-use published_prefix::{Page, Prefix, PrefixSeat};
+use plan_registry::Cursor;
+use published_prefix::Page;
 use std::alloc::{AllocError, Global};
 use std::marker::Brand;
 use std::test::Fail;
@@ -16,7 +17,7 @@ use tile_coords::{Plan, Region, Scheme, Tile, WalkEnd, Word};
 use tile_word::{nodes_at, tile_of, word_at};
 use tileset_json::Layout;
 use uri_template::Template;
-use walk_course::{Advanced, PlanWalk, advance, begin};
+use walk_course::{PlanWalk, begin, publish_next};
 
 // A subtree of ones with no content; None where its bits break a rule, which they never do.
 fn full(alloc: Global, layout: &Layout, root: Tile) -> Option<Subtree>
@@ -54,50 +55,35 @@ fn outcome_at(alloc: Global, layout: &Layout, key: Word, bad: Word) -> Option<Ou
     Some(Outcome::Good(full(alloc, layout, root)?))
 }
 
-// The walk of a plan over files that nobody tells.
-fn begun(
-    alloc: Global,
-    layout: &Layout,
-    plan: Plan,
-) -> Result<(Prefix<PlanWalk>, PrefixSeat<PlanWalk>), AllocError>
+// A cursor on the walk of a plan over files that nobody tells.
+fn begun(alloc: Global, layout: &Layout, plan: Plan) -> Result<Cursor<PlanWalk>, AllocError>
     requires { FitsLayout layout.now plan }
-    ensures seat { IfOk result (λ r. (r.1.table ≡ r.0) × (r.1.has_work ≡ false)) }
-    ensures tag { IfOk result (λ r. (r.1.tag.told ≡ None) × (r.1.tag.layout ≡ layout.now)) }
+    ensures at_rest { IfOk result (λ c. c.seat.has_work ≡ false) }
+    ensures tag { IfOk result (λ c. (c.seat.tag.told ≡ None) × (c.seat.tag.layout ≡ layout.now)) }
 {
-    begin::<Brand>(alloc, layout, plan)
+    let (prefix, seat) = begin::<Brand>(alloc, layout, plan)?;
+    Cursor::new(alloc, plan, prefix, seat)
 }
 
-// The root that the next step reads, if the walk is free and goes on.
-fn next_root(prefix: &Prefix<PlanWalk>, seat: &mut PrefixSeat<PlanWalk>) -> Option<Word>
-    requires own { seat.old.table ≡ prefix.now }
-    requires none_out { seat.old.has_work ≡ false }
-    ensures { (seat.new.table ≡ seat.old.table) × (seat.new.tag ≡ seat.old.tag)
-        × (seat.new.has_work ≡ false) }
+// Publishes the next step, if the walk goes on. Whether it did.
+fn moves(alloc: Global, cursor: &mut Cursor<PlanWalk>, layout: &Layout, bad: Word) -> bool
+    requires none_out { cursor.old.seat.has_work ≡ false }
+    requires tag { (cursor.old.seat.tag.told ≡ None) × (cursor.old.seat.tag.layout ≡ layout.now) }
+    ensures { (cursor.new.seat.tag ≡ cursor.old.seat.tag) × (cursor.new.seat.has_work ≡ false) }
 {
-    let work = prefix.try_claim(seat)?;
-    let next = work.next_key();
-    prefix.give_back(seat, work);
-    next
-}
-
-// Publishes the next step of a root.
-fn moves(
-    alloc: Global,
-    prefix: &Prefix<PlanWalk>,
-    seat: &mut PrefixSeat<PlanWalk>,
-    layout: &Layout,
-    root: Word,
-    bad: Word,
-) -> Option<Advanced>
-    requires own { seat.old.table ≡ prefix.now }
-    requires none_out { seat.old.has_work ≡ false }
-    requires tag { (seat.old.tag.told ≡ None) × (seat.old.tag.layout ≡ layout.now) }
-    ensures { (seat.new.table ≡ seat.old.table) × (seat.new.tag ≡ seat.old.tag)
-        × (seat.new.has_work ≡ false) }
-{
-    let outcome = outcome_at(alloc, layout, root, bad)?;
+    let Some(work) = cursor.try_claim() else {
+        return false;
+    };
+    let Some(root) = work.next_key() else {
+        cursor.give_back(work);
+        return false;
+    };
+    let Some(outcome) = outcome_at(alloc, layout, root, bad) else {
+        cursor.give_back(work);
+        return false;
+    };
     let mut words = Vec::new(alloc);
-    Some(advance(prefix, seat, root, &outcome, &mut words))
+    publish_next(cursor, work, &outcome, &mut words).is_ok()
 }
 
 // Up to 40 steps of a walk, and a page of what was published.
@@ -110,14 +96,13 @@ fn walked(
 ) -> Result<Page, AllocError>
     requires { FitsLayout layout.now plan }
 {
-    let (prefix, mut seat) = begun(alloc, layout, plan)?;
+    let mut cursor = begun(alloc, layout, plan)?;
     for _ in 0..40 {
-        let Some(root) = next_root(&prefix, &mut seat) else {
+        if !moves(alloc, &mut cursor, layout, bad) {
             break;
-        };
-        moves(alloc, &prefix, &mut seat, layout, root, bad);
+        }
     }
-    Ok(prefix.page(&mut seat, 0, out))
+    Ok(cursor.page(0, out))
 }
 
 // A layout of a quadtree with no contents.
