@@ -15,7 +15,7 @@ SLOW = set("""availability bitstream commands frame_pool framed_walk http_connec
     implicit_tileset plan_registry published_prefix reference_walk region_cursor region_scan replay_core
     replay_script request_text scene_frames scene_ports shared_pool subtree_file subtree_json subtree_outcome
     subtree_write tile_builder tile_coords tile_occupancy tile_walk tileset_json tileset_make tileset_write
-    turn_lock uri_template view walk_course""".split())
+    turn_lock uri_template view viewer_session walk_course""".split())
 NAME = re.compile(r"[a-z][a-z0-9]*(_[a-z0-9]+)*\.edit")
 # An edit of what is claimed or of what only a proof sees shows nothing of the code.
 NO_CODE = re.compile(r"\s*(ghost|requires|ensures)\b")

@@ -1,0 +1,4 @@
+mod Wholes
+mod Readings
+mod NextSteps
+mod Passes
