@@ -24,16 +24,16 @@ IsOnCourse tag key = (made : ℕ) × IsNextRoot tag made key
 
 -- The outcomes of some roots were held by a pass, one after another, by its notes and the counts of fetches before and
 -- after
-abbrev pub Holds : ℕ → List ℕ → Note ℕ Outcome → Note ℕ Outcome → ℕ → ℕ → Type 0
-Holds number [] n m before after = (m.granted ≡ n.granted) × (after ≡ before)
-Holds number (key ∷ keys) n m before after = (mid : Note ℕ Outcome) × (between : ℕ)
-    × IsHeldBy number key n mid before between × Holds number keys mid m between after
+abbrev pub Holds : WalkTag → ℕ → List ℕ → Note ℕ Outcome → Note ℕ Outcome → ℕ → ℕ → Type 0
+Holds tag number [] n m before after = (m.granted ≡ n.granted) × (after ≡ before)
+Holds tag number (key ∷ keys) n m before after = (mid : Note ℕ Outcome) × (between : ℕ)
+    × IsHeldBy tag.layout tag.told number key n mid before between × Holds tag number keys mid m between after
 
 -- All that was granted and fetched: for roots on the walk, each of which was held
 pub record HasRead (tag : WalkTag) (old new : FramesPass) (before after : ℕ) : Type 0 where
   pub keys : List ℕ
   pub on_walk : All (IsOnCourse tag) keys
-  pub holds : Holds old.number keys old.note new.note before after
+  pub holds : Holds tag old.number keys old.note new.note before after
 
 -- The same, where the last root may not have been held
 pub record HasReadUpTo (tag : WalkTag) (old new : FramesPass) (before after : ℕ) : Type 0 where
@@ -41,6 +41,6 @@ pub record HasReadUpTo (tag : WalkTag) (old new : FramesPass) (before after : �
   pub note : Note ℕ Outcome
   pub between : ℕ
   pub on_walk : All (IsOnCourse tag) keys
-  pub holds : Holds old.number keys old.note note before between
+  pub holds : Holds tag old.number keys old.note note before between
   pub last : ((new.note.granted ≡ note.granted) × (after ≡ between))
-      ⊎ ((key : ℕ) × IsOnCourse tag key × IsStoppedBy old.number key note new.note between after)
+      ⊎ ((key : ℕ) × IsOnCourse tag key × IsStoppedBy tag.layout old.number key note new.note between after)

@@ -143,11 +143,13 @@ impl Scene {
         ensures failed { result ≡ Err HoldStop.ReadFault → Rose (S.faults files.old) (S.faults files.new)
             × HasEnded pass.new.frames.number key pass.new.frames.tag pass.new.frames.last pass.new.frames.gave }
         ensures sure { result ≢ Err HoldStop.ReadFault → S.faults files.new ≡ S.faults files.old }
-        ensures read { IfOk result (λ _. IsHeldBy pass.old.frames.number key pass.old.frames.note
+        ensures read { IfOk result (λ _. IsHeldBy self.now.tileset.layout self.now.tileset.told
+            pass.old.frames.number key pass.old.frames.note
             pass.new.frames.note (S.fetches files.old) (S.fetches files.new)) }
-        ensures read_before { IfErr result (λ stop. IsHeldBy pass.old.frames.number key pass.old.frames.note
+        ensures read_before { IfErr result (λ stop. IsHeldBy self.now.tileset.layout self.now.tileset.told
+            pass.old.frames.number key pass.old.frames.note
             pass.new.frames.note (S.fetches files.old) (S.fetches files.new)
-            ⊎ IsStoppedBy pass.old.frames.number key pass.old.frames.note
+            ⊎ IsStoppedBy self.now.tileset.layout pass.old.frames.number key pass.old.frames.note
             pass.new.frames.note (S.fetches files.old) (S.fetches files.new)) }
         ensures later { S.faults files.old ≤ S.faults files.new }
         ensures told { S.told files.new ≡ S.told files.old }
