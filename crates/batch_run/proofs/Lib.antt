@@ -1,0 +1,4 @@
+pub mod Answering
+pub mod Lines
+pub mod Rounds
+pub mod Writing
