@@ -1,6 +1,6 @@
-//! The blocks of a batch: what is written for each line of an input that several workers answer in rounds. A round is cut
-//! from the input, each line of it has one worker, and the replies of the workers become blocks in input order. It knows
-//! no threads and no scene.
+//! The blocks of a batch: what is written for each line of an input that several workers answer in rounds. A round is
+//! cut from the input, each line of it has one worker, and the replies of the workers become blocks in input order.
+//! It knows no threads and no scene.
 #![tactic(auto)]
 
 mod reply;

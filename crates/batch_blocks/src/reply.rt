@@ -20,8 +20,8 @@ pub enum Reply {
     Whole { end: WalkEnd, words: Vec<Word> },
 }
 
-/// Appends the block of a reply to the piece that is held back, and gives the piece whenever it is full. After an `Err`
-/// some front of what the piece held and the block was given.
+/// Appends the block of a reply to the piece that is held back, and gives the piece whenever it is full. After an
+/// `Err` some front of what the piece held and the block was given.
 pub fn append_reply<O: Outlet>(
     layout: &Layout,
     reply: &Reply,

@@ -9,8 +9,8 @@ use std::alloc::{AllocError, Global};
 /// The most lines of a round.
 pub const ROUND_LINES: usize = 64;
 
-/// The lines of the next round of an input, up to 64 of them, and what stands behind them. There are fewer only where the
-/// input ends with them. An error is want of memory.
+/// The lines of the next round of an input, up to 64 of them, and what stands behind them. There are fewer only where
+/// the input ends with them. An error is want of memory.
 pub fn next_round(alloc: Global, input: &[u8]) -> Result<(Vec<&[u8]>, &[u8]), AllocError>
     ensures cut { IfOk result (λ cut. input_lines input.now
         ≡ map (λ line. line.now) cut.0.items ++ input_lines cut.1.now) }

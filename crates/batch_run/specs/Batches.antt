@@ -21,8 +21,8 @@ pub record HasAnswered {W : Type 0} (whole : Plan → W) (layout : Layout) (bloc
   pub walked : now ≡ before ++ map whole (answered_plans layout blocks)
 
 -- One block for each of these lines, in their order, was given, and nothing else, where the workers have the lines of
--- their turns: for each block that tells of a failed read the source of its worker has counted a fault, and each answer
--- was walked by the pass of its worker
+-- their turns: for each block that tells of a failed read the source of its worker has counted a fault, and each
+-- answer was walked by the pass of its worker
 pub record IsBatch {S P W : Type 0} (faults : S → ℕ) (walked : P → List W) (whole : Plan → W) (scene : Viewed P) (lines : List (List ℕ)) (old new : List (DeskSeen S P W)) (before now : Option (List ℕ)) : Type 0 where
   pub blocks : List Block
   pub of_lines : AreBlocks scene.told scene.layout lines blocks

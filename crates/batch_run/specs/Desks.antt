@@ -18,8 +18,8 @@ abbrev pub walked_of : {P W : Type 0} → (P → List W) → Option P → List W
 walked_of walked None = []
 walked_of walked (Some pass) = walked pass
 
--- What answers plans for some passes: the files that its sources tell, its layout, and which passes are its own, between
--- two calls
+-- What answers plans for some passes: the files that its sources tell, its layout, and which passes are its own,
+-- between two calls
 pub record Viewed (P : Type 0) : Type 1 where
   pub told : Option Files
   pub layout : Layout

@@ -16,10 +16,10 @@ use std::alloc::Global;
 use std::sync::Wait;
 use std::thread::Threads;
 
-/// Answers the lines of an input and writes one block for each, in input order, and nothing else. The lines are taken in
-/// rounds of 64; in a round worker w of W has the lines w, w + W and so on, and works at desk w alone, in a thread of its own.
-/// Where every frame is pinned a worker asks again. Each desk keeps its pass. WriteFault comes only where the outlet has
-/// counted a fault, and Memory for want of memory; after both some front of such blocks was given.
+/// Answers the lines of an input and writes one block for each, in input order, and nothing else. The lines are taken
+/// in rounds of 64; in a round worker w of W has the lines w, w + W and so on, and works at desk w alone, in a thread
+/// of its own. Where every frame is pinned a worker asks again. Each desk keeps its pass. WriteFault comes only where
+/// the outlet has counted a fault, and Memory for want of memory; after both some front of such blocks was given.
 pub fn batch<
     R: Threads + Wait + Sync,
     S: FileSource + Send,

@@ -8,8 +8,9 @@ use std::alloc::Global;
 use std::collections::{LinkedList, VecDeque};
 use std::marker::{Brand, Model};
 
-/// The place of one worker: its source, a pass while it has one, and its replies to the lines of a round. Contracts see
-/// also what the pass had walked that was taken out of it last.
+/// The place of one worker: its source, a pass while it has one, and its replies to the lines of a round. Contracts
+/// see also what the pass had walked that was taken out of it last.
+#[derive(Drop)]
 pub struct Desk<S, P, W> {
     pub(crate) source: S,
     pub(crate) pass: Option<P>,

@@ -1,6 +1,6 @@
-//! Lines answered by several workers over one scene: in rounds of 64 lines, each worker answers its own at its desk, in a
-//! thread of its own, and the blocks are written in input order. What answers their plans is a trait: it knows no
-//! walk and no frames.
+//! Lines answered by several workers over one scene: in rounds of 64 lines, each worker answers its own at its desk,
+//! in a thread of its own, and the blocks are written in input order. What answers their plans is a trait: it knows
+//! no walk and no frames.
 #![tactic(auto)]
 
 mod all_lines;

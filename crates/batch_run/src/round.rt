@@ -22,8 +22,8 @@ use std::sync::Wait;
 use std::thread;
 use std::thread::Threads;
 
-/// Answers the lines of a round (up to 64), and writes their blocks. `first` is the number of the first of them in the input.
-/// After an `Err` some front of the blocks was given.
+/// Answers the lines of a round (up to 64), and writes their blocks. `first` is the number of the first of them in
+/// the input. After an `Err` some front of the blocks was given.
 pub(crate) fn run_round<
     R: Threads + Wait + Sync,
     S: FileSource + Send,
@@ -61,8 +61,8 @@ pub(crate) fn run_round<
     write_blocks(alloc, scene, lines, desks, out)
 }
 
-// Answers the lines of a round, each at the desk of its worker. Each worker has a thread; where no thread can be started
-// the work is done in turn.
+// Answers the lines of a round, each at the desk of its worker. Each worker has a thread; where no thread can be
+// started the work is done in turn.
 fn answer_lines<
     R: Threads + Wait + Sync,
     S: FileSource + Send,
@@ -83,9 +83,9 @@ fn answer_lines<
     requires few { length lines.now ≤ round_lines }
     requires ready { All (IsReady S.told (V.seen scene.now)) desks.old }
     ensures count { length desks.new ≡ length desks.old }
-    ensures worked { (w : ℕ) (d : _) → w < length desks.old → HasWorked S.told S.faults P.walked P.whole (V.seen scene.now)
-        (map (λ line. line.now) lines.now) (length desks.old) w (slice_index_or desks.old w d)
-        (slice_index_or desks.new w d) }
+    ensures worked { (w : ℕ) (d : _) → w < length desks.old
+        → HasWorked S.told S.faults P.walked P.whole (V.seen scene.now) (map (λ line. line.now) lines.now)
+        (length desks.old) w (slice_index_or desks.old w d) (slice_index_or desks.new w d) }
 {
     let workers = desks.len();
     thread::for_each_mut(
@@ -98,7 +98,8 @@ fn answer_lines<
     );
 }
 
-// Writes the blocks of the replies at the desks, in the order of their lines. After an `Err` some front of them was given.
+// Writes the blocks of the replies at the desks, in the order of their lines. After an `Err` some front of them was
+// given.
 fn write_blocks<S: FileSource, P: Pass<W>, W, V: Viewing<P, W, S>, O: Outlet>(
     alloc: Global,
     scene: &V,

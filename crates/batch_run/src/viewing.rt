@@ -42,8 +42,8 @@ pub trait Viewing<P: Pass<W>, W, S: FileSource> {
     fn layout(&self) -> &Layout
         ensures { result.now ≡ (seen self.now).layout };
 
-    /// The answer for a plan that fits the layout: `words` becomes the words of its tiles in key order, at most 65,536, and the
-    /// end is that of the answer.
+    /// The answer for a plan that fits the layout: `words` becomes the words of its tiles in key order, at most
+    /// 65,536, and the end is that of the answer.
     fn answer<R: Wait>(
         &self,
         rt: &R,

@@ -25,8 +25,8 @@ use tileset_json::Layout;
 // How often a thread spins before it yields, where every frame is pinned.
 const SPINS: u32 = 100;
 
-/// Answers the lines of a worker, in order, at its desk. Where memory is wanting the desk says so, and its lines from there
-/// on have no replies.
+/// Answers the lines of a worker, in order, at its desk. Where memory is wanting the desk says so, and its lines from
+/// there on have no replies.
 pub(crate) fn work<R: Wait, S: FileSource, P: Pass<W> + Drop, W, V: Viewing<P, W, S>, G: Gate>(
     rt: &R,
     alloc: Global,
@@ -86,9 +86,9 @@ fn answer_lines<R: Wait, S: FileSource, P: Pass<W>, W, V: Viewing<P, W, S>, G: G
     requires empty { replies.old.items ≡ [] }
     ensures replies { IfOk result (λ u. AreRepliesTo (V.seen scene.now).told (V.seen scene.now).layout
         (of_worker workers worker 0 (map (λ line. line.now) lines.now)) replies.new.items) }
-    ensures answered { IfOk result (λ u. HasAnswered P.whole (V.seen scene.now).layout (blocks_of (V.seen scene.now).layout
-        (of_worker workers worker 0 (map (λ line. line.now) lines.now)) replies.new.items) (S.faults source.old)
-        (S.faults source.new) (P.walked pass.old) (P.walked pass.new)) }
+    ensures answered { IfOk result (λ u. HasAnswered P.whole (V.seen scene.now).layout
+        (blocks_of (V.seen scene.now).layout (of_worker workers worker 0 (map (λ line. line.now) lines.now))
+        replies.new.items) (S.faults source.old) (S.faults source.new) (P.walked pass.old) (P.walked pass.new)) }
     ensures later { S.faults source.old ≤ S.faults source.new }
     ensures told { S.told source.new ≡ S.told source.old }
     ensures pass { (V.seen scene.now).is_pass pass.new }
@@ -118,8 +118,8 @@ fn answer_line<R: Wait, S: FileSource, P: Pass<W>, W, V: Viewing<P, W, S>>(
     requires told { S.told source.old ≡ (V.seen scene.now).told }
     ensures reply { IfOk result (IsReplyTo (V.seen scene.now).told (V.seen scene.now).layout line.now) }
     ensures answered { IfOk result (λ reply. HasAnswered P.whole (V.seen scene.now).layout
-        (block_of (V.seen scene.now).layout line.now reply ∷ []) (S.faults source.old) (S.faults source.new) (P.walked pass.old)
-        (P.walked pass.new)) }
+        (block_of (V.seen scene.now).layout line.now reply ∷ []) (S.faults source.old) (S.faults source.new)
+        (P.walked pass.old) (P.walked pass.new)) }
     ensures later { S.faults source.old ≤ S.faults source.new }
     ensures told { S.told source.new ≡ S.told source.old }
     ensures pass { (V.seen scene.now).is_pass pass.new }
@@ -154,8 +154,8 @@ fn answer_plan<R: Wait, S: FileSource, P: Pass<W>, W, V: Viewing<P, W, S>>(
     requires pass { (V.seen scene.now).is_pass pass.old }
     requires told { S.told source.old ≡ (V.seen scene.now).told }
     ensures reply { IfOk result (IsReplyToPlan (V.seen scene.now).told (V.seen scene.now).layout plan) }
-    ensures answered { IfOk result (HasAnsweredPlan P.whole plan (S.faults source.old) (S.faults source.new) (P.walked pass.old)
-        (P.walked pass.new)) }
+    ensures answered { IfOk result (HasAnsweredPlan P.whole plan (S.faults source.old) (S.faults source.new)
+        (P.walked pass.old) (P.walked pass.new)) }
     ensures later { S.faults source.old ≤ S.faults source.new }
     ensures told { S.told source.new ≡ S.told source.old }
     ensures pass { (V.seen scene.now).is_pass pass.new }
