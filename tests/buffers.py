@@ -65,9 +65,13 @@ def name_cases():
                              ("a_buffer_name_is_decoded_once", "%2530.bin", "s/0/0/%30.bin")):
         run(name, json_form(with_uri(uri), {there: D_BYTES}), ASKED, ANSWER)
     for name, uri in (("a_buffer_outside_the_folder", "../../../x"), ("a_buffer_above_its_subtree", "../x"),
-                      ("a_buffer_by_an_absolute_path", "/x"), ("a_buffer_by_points_that_are_written_otherwise", "%2e%2e/x"),
+                      ("a_buffer_above_its_subtree_written_otherwise", "%2e%2e/x")):
+        run(name, json_form(with_uri(uri), {"x": D_BYTES, "s/0/x": D_BYTES}), ASKED, faulty(19), 1)
+    # beside a subtree file that stands in no folder the name is the `uri` alone
+    for name, uri in (("a_buffer_by_an_absolute_path", "/x"), ("a_buffer_by_points_that_are_written_otherwise", "%2e%2e/x"),
                       ("a_buffer_name_with_a_zero_byte", "a%00b"), ("a_buffer_name_that_is_no_text", "%FF"), ("an_empty_buffer_name", "")):
-        run(name, json_form(with_uri(uri), {"x": D_BYTES, "s/0/x": D_BYTES, "s/x": D_BYTES}), ASKED, faulty(19), 1)
+        files = {"tileset.json": tileset("QUADTREE", 2, 4, "d.subtree"), "d.subtree": json.dumps(with_uri(uri)).encode(), "x": D_BYTES}
+        run(name, files, ASKED, faulty(19), 1)
 
 
 def several_cases():

@@ -62,12 +62,18 @@ fn file(alloc: Global, json: &[u8], binary: &[u8]) -> Result<Vec<u8>, AllocError
     Ok(bytes)
 }
 
-// The number of a file's fault: 0 for none.
+// The number of the fault of a file without any file beside it: 0 for none.
 fn number(alloc: Global, tileset: &str, bytes: &[u8]) -> Result<u64, Fail> {
     let Ok(layout) = Layout::read(alloc, tileset.as_bytes()) else {
         return Ok(100);
     };
-    match decode(alloc, &layout, Tile::root(), bytes, &[BufferFile::Missing]) {
+    let mut files = Vec::new(alloc);
+    if let Ok(names) = needed_buffers(alloc, &layout, Tile::root(), bytes) {
+        for _ in &names {
+            files.push(BufferFile::Missing)?;
+        }
+    }
+    match decode(alloc, &layout, Tile::root(), bytes, &files) {
         Ok(_) => Ok(0),
         Err(DecodeFault::Fault(number)) => Ok(number),
         Err(DecodeFault::Memory) => Ok(101),

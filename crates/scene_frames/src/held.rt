@@ -46,9 +46,9 @@ impl From<WalkStop> for HoldStop {
     }
 }
 
-/// Pins the outcome of the root of a word. Where no frame has it, this pass is granted one and reads the root's file, with the files of its buffers; where
-/// another pass reads it, this one waits for it. After an Err the pass pins and loads nothing, and a frame that it was
-/// granted is empty.
+/// Pins the outcome of the root of a word. Where no frame has it, this pass is granted one and reads the root's file,
+/// with the files of its buffers; where another pass reads it, this one waits for it. After an Err the pass pins and
+/// loads nothing, and a frame that it was granted is empty.
 pub fn hold<S: FileSource>(
     rt: &impl Wait,
     alloc: Global,
@@ -62,8 +62,8 @@ pub fn hold<S: FileSource>(
     requires key { IsRootWord layout.now (word_level key) key }
     ensures outcome { IfOk result (λ found. IsOutcomeOf layout.now (S.told files.old) key (arc_value found)) }
     ensures pins { IfOk result (λ found. Pins key (arc_value found) pass.new.note) }
-    ensures held { IfOk result (λ found. IsHeldBy layout.now (S.told files.old) pass.old.number key pass.old.note pass.new.note
-        (S.fetches files.old) (S.fetches files.new)) }
+    ensures held { IfOk result (λ found. IsHeldBy layout.now (S.told files.old) pass.old.number key
+        pass.old.note pass.new.note (S.fetches files.old) (S.fetches files.new)) }
     ensures idle { IfErr result (λ stop. IsIdle pass.new.note) }
     ensures stopped { IfErr result (λ stop. IsStoppedBy layout.now pass.old.number key pass.old.note pass.new.note
         (S.fetches files.old) (S.fetches files.new)) }
