@@ -1,0 +1,5 @@
+use Rattle.viewer_session.specs.Sessions.{IsPassOf}
+use Rattle.viewer_session.proofs.tests.is_answered.Given as goal
+
+abbrev pub invariant-loop : goal.invariant-loop
+invariant-loop g l = IsPassOf l.scene l.pass
