@@ -108,7 +108,7 @@ impl Cursors {
 
     /// Makes the next step of a cursor, takes its work back, and tells how many tiles it shows then. Memory is the one
     /// error; it leaves the cursors as they were.
-    pub(crate) fn step(&mut self, number: u32, outcome: &Outcome) -> Result<u64, AllocError>
+    pub(crate) fn advance(&mut self, number: u32, outcome: &Outcome) -> Result<u64, AllocError>
         requires { IsSomeAnd (slice_get self.old number)
             (λ cursor. IsSome (cursor_key cursor.walk.cursor) × Fits cursor.walk.cursor outcome.now) }
         ensures stepped { IfOk result (λ tiles. HasStepped number outcome.now tiles self.old self.new) }

@@ -11,7 +11,7 @@ ghost use Rattle.replay_core.specs.Core.{IsCoreOf};
 ghost use Rattle.replay_core.specs.Events.{Answers};
 ghost use Rattle.tile_coords.specs.Ends.{EndsAtRoot};
 
-use crate::pinning::next_key;
+use crate::pinning::key_of;
 use crate::standing::{attached, is_free, working};
 use crate::state::Core;
 use replay_machine::{Held, Pass};
@@ -76,8 +76,8 @@ pub(crate) fn commit(core: &mut Core, layout: &Layout, pass: u32) -> Result<Repl
         Held::Loads(_) => return Ok(Reply::No),
     };
     // What the next key is becomes known here, for the outcome in the frame.
-    let _ = next_key(core, number);
-    let tiles = core.cursors.step(number, core.frames.look(frame))?;
+    let _ = key_of(core, number);
+    let tiles = core.cursors.advance(number, core.frames.look(frame))?;
     core.frames.unpin(frame);
     core.passes.set(
         pass,
@@ -90,7 +90,7 @@ pub(crate) fn commit(core: &mut Core, layout: &Layout, pass: u32) -> Result<Repl
 }
 
 /// The pass reads on, up to this many tiles. After an Err the core is as it was.
-pub(crate) fn page(
+pub(crate) fn read_page(
     core: &mut Core,
     alloc: Global,
     layout: &Layout,

@@ -36,7 +36,7 @@ pub(crate) fn pin(core: &mut Core, layout: &Layout, pass: u32) -> Reply
         Held::Loads(_) => return Reply::No,
         Held::Pins(_) => return Reply::No,
     }
-    let key = next_key(core, number);
+    let key = key_of(core, number);
     match core.frames.ask(key) {
         Asked::Hit(frame) => {
             core.passes.set(
@@ -109,7 +109,7 @@ pub(crate) fn load(core: &mut Core, layout: &Layout, pass: u32, read: Option<Out
 }
 
 /// The key of the root that the next step of a cursor reads, which goes on.
-pub(crate) fn next_key(core: &Core, number: u32) -> Word
+pub(crate) fn key_of(core: &Core, number: u32) -> Word
     requires { IsSomeAnd (slice_get core.now.cursors number) (λ cursor. cursor.walk.end ≡ Partial) }
     ensures next { IsSomeAnd (slice_get core.now.cursors number) (IsNextOf result) }
     ensures numbers { IsPermutation (range_with_len 0 (length core.now.frames.census)) core.now.frames.order }

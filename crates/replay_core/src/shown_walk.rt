@@ -1,5 +1,6 @@
 // A paused walk with what its steps gave.
-ghost use Rattle.std.specs.Prelude.{ℕ, ◌≡◌, ◌+◌, ◌^◌, ◌<◌, ◌≤◌, length, take, drop, map, IfOk, IfErr, IfSome, IsSome, IsSomeAnd, None};
+ghost use Rattle.std.specs.Prelude.{ℕ, ◌≡◌, ◌+◌, ◌^◌, ◌<◌, ◌≤◌, length, take, drop, map, IfOk, IfErr};
+ghost use Rattle.std.specs.Prelude.{IfSome, IsSome, IsSomeAnd, None};
 ghost use Rattle.implicit_tiling.specs.Scene.{Scene};
 ghost use Rattle.std.specs.List.{All};
 ghost use Rattle.implicit_tiling.specs.Code.{word, tile_word, IsWord};
@@ -38,7 +39,8 @@ impl Model for ShownWalk {
 
     ghost view = { λ w. record { cursor = w.state; words = w.words.items ++ w.fresh.items; end = w.end } };
 
-    ghost invariant = { λ w. IsShownWalk (record { cursor = w.state; words = w.words.items ++ w.fresh.items; end = w.end }) };
+    ghost invariant = { λ w. IsShownWalk
+        (record { cursor = w.state; words = w.words.items ++ w.fresh.items; end = w.end }) };
 }
 
 impl ShownWalk {

@@ -1,25 +1,29 @@
 // The steps of a replay.
-ghost use Rattle.std.specs.Prelude.{◌≡◌, ◌-◌, ◌^◌, ◌<◌, ◌≤◌, IfOk, IfErr};
+ghost use Rattle.std.specs.Prelude.{◌≡◌, ◌-◌, ◌^◌, ◌<◌, ◌≤◌, IfOk, IfErr, IfSome};
 ghost use Rattle.std.specs.List.{All};
 ghost use Rattle.implicit_tiling.specs.Scene.{Scene, Layout as Layouts};
-ghost use Rattle.implicit_tiling.specs.Code.{IsWord};
+ghost use Rattle.implicit_tiling.specs.Code.{IsWord, word_level};
+ghost use Rattle.tile_word.specs.Roots.{IsRootWord};
 ghost use Rattle.subtree_outcome.specs.Outcomes.{HasNoOrphans};
 ghost use Rattle.frame_pool.specs.Frames.{most_frames};
 ghost use Rattle.replay_script.specs.Replies.{reply_words};
 ghost use Rattle.replay_machine.specs.Machine.{Machine, opening};
 ghost use Rattle.replay_machine.specs.Turns.{turn};
 ghost use Rattle.replay_core.specs.Core.{IsCoreOf, AsksFor, Brings, IsReadAt, IsOfScene, IsShown, IsReplied};
+ghost use Rattle.replay_core.specs.Core.{wanted};
 
 use crate::claiming::{claim, drop_work};
 use crate::cursors::Cursors;
-use crate::moving::{attach, commit, page};
+use crate::moving::{attach, commit, read_page};
 use crate::passes::Passes;
-use crate::pinning::{load, pin};
+use crate::pinning::{key_of, load, pin};
 use crate::state::Core;
 use frame_pool::Pool;
+use replay_machine::Held;
 use replay_script::{Event, Reply};
 use std::alloc::{AllocError, Global};
 use subtree_outcome::Outcome;
+use tile_coords::Word;
 use tileset_json::Layout;
 
 impl Core {
@@ -36,6 +40,30 @@ impl Core {
             cursors: Cursors::new(alloc),
             passes: Passes::new(alloc, passes)?,
         })
+    }
+
+    /// The word, with mask 0, of the root whose file a pass is loading: what a load of the pass is to bring. None where
+    /// the pass loads nothing.
+    pub fn wanted(&self, layout: &Layout, pass: u32) -> Option<Word>
+        requires { IsCoreOf layout.now self.now }
+        ensures key { result ≡ wanted self.now pass }
+        ensures root { IfSome result (λ key. IsRootWord layout.now (word_level key) key) }
+    {
+        let _ = layout;
+        let state = match self.passes.get(pass) {
+            Some(state) => state,
+            None => return None,
+        };
+        match state.frame {
+            Held::Loads(_) => {}
+            Held::Nothing => return None,
+            Held::Pins(_) => return None,
+        }
+        let number = match state.cursor {
+            Some(number) => number,
+            None => unreachable!(),
+        };
+        Some(key_of(self, number))
     }
 
     /// Does what an event asks for, and tells what is replied. A load brings what was read of the file of the root that
@@ -65,7 +93,7 @@ impl Core {
             Event::Fail { pass } => Ok(load(self, layout, pass, None)),
             Event::Commit { pass } => commit(self, layout, pass),
             Event::Drop { pass } => Ok(drop_work(self, layout, pass)),
-            Event::Page { pass, count } => page(self, alloc, layout, pass, count),
+            Event::Page { pass, count } => read_page(self, alloc, layout, pass, count),
             Event::Bad => Ok(Reply::Bad),
         }
     }

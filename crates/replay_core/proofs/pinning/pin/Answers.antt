@@ -20,8 +20,8 @@ pub returns-in-Hit-clause-core : goal.returns-in-Hit-clause-core
 returns-in-Hit-clause-core c =
     let old = c.args.core.now in
     let w = c.in-Some.ensures.some in
-    let key = c.next_key-key.result in
-    let next = some_holds old.cursors c.in-Some.found.1 w.0 (IsNextOf key) w.1.at c.next_key-key.ensures.next in
+    let key = c.key_of-key.result in
+    let next = some_holds old.cursors c.in-Some.found.1 w.0 (IsNextOf key) w.1.at c.key_of-key.ensures.next in
     hit_sound c.args.layout.now old c.args.pass c.in-Some.found.0 c.in-Some.found.1 w.0 key c.in-Hit.frame c.ask.new.self c.set.new.self w.1 c.in-Nothing.is next.is
     c.in-Hit.ensures.answer c.in-Hit.ensures.pinned c.in-Hit.ensures.after c.set.ensures c.requires
 
@@ -29,17 +29,17 @@ pub returns-in-Hit-clause-scene : goal.returns-in-Hit-clause-scene
 returns-in-Hit-clause-scene c =
     let old = c.args.core.now in
     let w = c.in-Some.ensures.some in
-    let key = c.next_key-key.result in
-    let next = some_holds old.cursors c.in-Some.found.1 w.0 (IsNextOf key) w.1.at c.next_key-key.ensures.next in
+    let key = c.key_of-key.result in
+    let next = some_holds old.cursors c.in-Some.found.1 w.0 (IsNextOf key) w.1.at c.key_of-key.ensures.next in
     pin_hit c.args.layout.now old c.args.pass key c.in-Hit.frame c.in-Some.found.0 c.in-Some.found.1 w.0 c.ask.new.self c.set.new.self w.1 c.in-Nothing.is next
-    c.in-Hit.ensures.answer c.in-Hit.ensures.only c.next_key-key.ensures.numbers c.in-Hit.ensures.after c.set.ensures
+    c.in-Hit.ensures.answer c.in-Hit.ensures.only c.key_of-key.ensures.numbers c.in-Hit.ensures.after c.set.ensures
 
 pub returns-in-Granted-clause-core : goal.returns-in-Granted-clause-core
 returns-in-Granted-clause-core c =
     let old = c.args.core.now in
     let w = c.in-Some.ensures.some in
-    let key = c.next_key-key.result in
-    let next = some_holds old.cursors c.in-Some.found.1 w.0 (IsNextOf key) w.1.at c.next_key-key.ensures.next in
+    let key = c.key_of-key.result in
+    let next = some_holds old.cursors c.in-Some.found.1 w.0 (IsNextOf key) w.1.at c.key_of-key.ensures.next in
     granted_sound c.args.layout.now old c.args.pass c.in-Some.found.0 c.in-Some.found.1 w.0 key c.in-Granted.frame c.ask.new.self c.set-in-Granted.new.self w.1 c.in-Nothing.is next.is
     c.in-Granted.ensures.answer c.in-Granted.ensures.pinned c.in-Granted.ensures.after c.set-in-Granted.ensures c.requires
 
@@ -47,23 +47,23 @@ pub returns-in-Granted-clause-scene : goal.returns-in-Granted-clause-scene
 returns-in-Granted-clause-scene c =
     let old = c.args.core.now in
     let w = c.in-Some.ensures.some in
-    let key = c.next_key-key.result in
-    let next = some_holds old.cursors c.in-Some.found.1 w.0 (IsNextOf key) w.1.at c.next_key-key.ensures.next in
+    let key = c.key_of-key.result in
+    let next = some_holds old.cursors c.in-Some.found.1 w.0 (IsNextOf key) w.1.at c.key_of-key.ensures.next in
     pin_granted c.args.layout.now old c.args.pass key c.in-Granted.frame c.in-Some.found.0 c.in-Some.found.1 w.0 c.ask.new.self c.set-in-Granted.new.self w.1 c.in-Nothing.is next
-    c.in-Granted.ensures.answer c.in-Granted.ensures.only c.next_key-key.ensures.numbers c.in-Granted.ensures.after c.set-in-Granted.ensures
+    c.in-Granted.ensures.answer c.in-Granted.ensures.only c.key_of-key.ensures.numbers c.in-Granted.ensures.after c.set-in-Granted.ensures
 
 pub returns-in-Loading-clause-scene : goal.returns-in-Loading-clause-scene
 returns-in-Loading-clause-scene c =
     let old = c.args.core.now in
     let w = c.in-Some.ensures.some in
-    let key = c.next_key-key.result in
-    let next = some_holds old.cursors c.in-Some.found.1 w.0 (IsNextOf key) w.1.at c.next_key-key.ensures.next in
-    pin_waits c.args.layout.now old c.args.pass key c.in-Some.found.0 c.in-Some.found.1 w.0 c.ask.new.self w.1 c.in-Nothing.is next c.in-Loading.ensures.only c.next_key-key.ensures.numbers c.in-Loading.ensures.after
+    let key = c.key_of-key.result in
+    let next = some_holds old.cursors c.in-Some.found.1 w.0 (IsNextOf key) w.1.at c.key_of-key.ensures.next in
+    pin_waits c.args.layout.now old c.args.pass key c.in-Some.found.0 c.in-Some.found.1 w.0 c.ask.new.self w.1 c.in-Nothing.is next c.in-Loading.ensures.only c.key_of-key.ensures.numbers c.in-Loading.ensures.after
 
 pub returns-in-Busy-clause-scene : goal.returns-in-Busy-clause-scene
 returns-in-Busy-clause-scene c =
     let old = c.args.core.now in
     let w = c.in-Some.ensures.some in
-    let key = c.next_key-key.result in
-    let next = some_holds old.cursors c.in-Some.found.1 w.0 (IsNextOf key) w.1.at c.next_key-key.ensures.next in
-    pin_busy c.args.layout.now old c.args.pass key c.in-Some.found.0 c.in-Some.found.1 w.0 c.ask.new.self w.1 c.in-Nothing.is next c.in-Busy.ensures.only c.next_key-key.ensures.numbers c.in-Busy.ensures.after
+    let key = c.key_of-key.result in
+    let next = some_holds old.cursors c.in-Some.found.1 w.0 (IsNextOf key) w.1.at c.key_of-key.ensures.next in
+    pin_busy c.args.layout.now old c.args.pass key c.in-Some.found.0 c.in-Some.found.1 w.0 c.ask.new.self w.1 c.in-Nothing.is next c.in-Busy.ensures.only c.key_of-key.ensures.numbers c.in-Busy.ensures.after

@@ -3,7 +3,7 @@ use Rattle.std.specs.Prelude.{IsSome}
 use Rattle.region_cursor.specs.Cursor.{cursor_key, Fits}
 use Rattle.replay_core.specs.declared.shared_cursor.SharedCursor.{SharedCursor}
 use Rattle.replay_core.proofs.Numbered.{plans_stay, read_at, some_within}
-use Rattle.replay_core.proofs.cursors.Cursors.step.Goals as goal
+use Rattle.replay_core.proofs.cursors.Cursors.advance.Goals as goal
 
 pub invariant_of-self-2 : goal.invariant_of-self-2
 invariant_of-self-2 c =

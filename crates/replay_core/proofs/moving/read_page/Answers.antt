@@ -11,7 +11,7 @@ use Rattle.replay_core.specs.declared.shared_cursor.SharedCursor.{SharedCursor}
 use Rattle.replay_core.proofs.Numbered.{some_holds}
 use Rattle.replay_core.proofs.Sound.{placed_sound}
 use Rattle.replay_core.proofs.Scenes.{cursor_there, page_done}
-use Rattle.replay_core.proofs.moving.page.Goals as goal
+use Rattle.replay_core.proofs.moving.read_page.Goals as goal
 
 pub returns-clause-core : goal.returns-clause-core
 returns-clause-core c =
