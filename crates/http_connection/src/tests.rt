@@ -1,6 +1,7 @@
 // What no clause says: that memory suffices, that a reply leaves in one piece, and whole connections as they are seen
 // from outside.
-ghost use Rattle.std.specs.Prelude.{◌≤◌, Unit, string_bytes};
+ghost use Rattle.std.specs.Prelude.{◌≤◌, string_bytes};
+ghost use Rattle.http_connection.specs.Answers.{HasLength};
 
 use crate::{Served, ServedEnd, Viewers, ViewersAnswer, serve_connection};
 use http_text::Route;

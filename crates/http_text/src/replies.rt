@@ -13,12 +13,7 @@ use std::alloc::AllocError;
 /// Appends the head of a reply (RFC 9112, section 4): the status with the reason that `http` has for it, `Allow: GET`
 /// with 405, the type of the body, its `length` in bytes, and whether the connection stays; then an empty line. An
 /// `Err` leaves `out` as it was, and comes only where `out` had no room for the head.
-pub fn reply_head(
-    status: u16,
-    length: u64,
-    close: bool,
-    out: &mut String,
-) -> Result<(), AllocError>
+pub fn reply_head(status: u16, length: u64, close: bool, out: &mut String) -> Result<(), AllocError>
     requires { IsReplyStatus status }
     ensures head { OnOk result (string_bytes out.new ≡ string_bytes out.old ++ head_of status length close) }
     ensures unchanged { OnErr result (string_bytes out.new ≡ string_bytes out.old) }
