@@ -9,7 +9,8 @@ use Rattle.walk_course.specs.declared.tag.WalkTag.{WalkTag}
 use Rattle.walk_course.specs.Course.{IsNextRoot}
 use Rattle.viewer_session.specs.Sessions.{FramesPass}
 
--- the pool that the pass took last had every frame pinned, and none with such a root; the pass was answered so once more
+-- the pool that the pass took last had every frame pinned, and none with such a root; the pass was answered so once
+-- more
 abbrev pub IsStuck : (ℕ → Type 0) → FramesPass → FramesPass → Type 0
 IsStuck IsKey old new = (key : ℕ) × IsKey key × (n : Note ℕ Outcome) × (n.busies ≡ old.note.busies)
     × HasMissed nat_eq key new.tag n new.last new.gave new.note

@@ -15,8 +15,8 @@ use Rattle.viewer_session.specs.declared.next.Next.TheVariants as next
 use Rattle.viewer_session.specs.declared.advance.Advance.{Advance}
 use Rattle.viewer_session.specs.declared.advance.Advance.TheVariants.{Moved, AtEnd}
 
--- A seat looked at heads and tried to take the work: it is as before, but for what it has seen and tried, and whether it
--- has the work
+-- A seat looked at heads and tried to take the work: it is as before, but for what it has seen and tried, and whether
+-- it has the work
 pub record HasLooked (old new : Seat WalkTag) : Type 0 where
   pub table : new.table ≡ old.table
   pub tag : new.tag ≡ old.tag

@@ -33,9 +33,9 @@ pub enum Advance {
 
 impl Scene {
     /// Moves the walk of the cursor on by a step, or sees it move. AtEnd comes exactly where the head that this call
-    /// loads first has an end. Where another seat has the walk, this one looks until the steps have risen, or it has the
-    /// walk itself. ReadFault comes only where the source has counted a fault, Busy only where every frame is pinned and
-    /// none has the next root, and Memory for want of memory. After an Err nothing was published.
+    /// loads first has an end. Where another seat has the walk, this one looks until the steps have risen, or it has
+    /// the walk itself. ReadFault comes only where the source has counted a fault, Busy only where every frame is
+    /// pinned and none has the next root, and Memory for want of memory. After an Err nothing was published.
     pub fn advance<S: FileSource>(
         &self,
         rt: &impl Wait,

@@ -32,10 +32,10 @@ pub struct Whole {
 }
 
 impl Scene {
-    /// The answer for a plan that fits the layout: `words` becomes the words of its tiles in key order, at most 65,536,
-    /// and the end is that of the answer, so never Partial (OGC 22-025r4, implicit tiling: availability). It is read off
-    /// the walk of the plan, which is moved on as far as nobody else does. The errors come as in `advance`; an Err leaves
-    /// `words` as it was.
+    /// The answer for a plan that fits the layout: `words` becomes the words of its tiles in key order, at most
+    /// 65,536, and the end is that of the answer, so never Partial (OGC 22-025r4, implicit tiling: availability). It
+    /// is read off the walk of the plan, which is moved on as far as nobody else does. The errors come as in
+    /// `advance`; an Err leaves `words` as it was.
     pub fn answer<S: FileSource>(
         &self,
         rt: &impl Wait,

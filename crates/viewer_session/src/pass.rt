@@ -16,8 +16,8 @@ pub enum Walked {
     Whole(Plan),
 }
 
-/// What one thread asks with: a pass to the frames of a scene, and a seat of its registry of walks. Between two calls it
-/// pins and loads nothing.
+/// What one thread asks with: a pass to the frames of a scene, and a seat of its registry of walks. Between two calls
+/// it pins and loads nothing.
 #[derive(Drop)]
 pub struct ViewerPass {
     pub(crate) frames: PoolPass<Outcomes>,

@@ -57,9 +57,9 @@ impl Scene {
         &self.walks.layout
     }
 
-    /// A cursor on the walk of a plan that fits the layout. A plan that is there gives a new seat on its walk, and comes
-    /// to the front of the registry. Else a new walk is put in front, and the last of 64 leaves; cursors on it stay good.
-    /// An error is want of memory, and the registry is then as it was.
+    /// A cursor on the walk of a plan that fits the layout. A plan that is there gives a new seat on its walk, and
+    /// comes to the front of the registry. Else a new walk is put in front, and the last of 64 leaves; cursors on it
+    /// stay good. An error is want of memory, and the registry is then as it was.
     pub fn attach(
         &self,
         rt: &impl Wait,
