@@ -7,6 +7,7 @@ mod all_lines;
 mod desk;
 mod gate;
 mod round;
+mod scene;
 mod viewing;
 mod work;
 
