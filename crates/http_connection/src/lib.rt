@@ -15,6 +15,3 @@ pub use desk::MOST_REPLIES;
 pub use served::{Served, ServedEnd};
 pub use serving::serve_connection;
 pub use viewers::Viewers;
-
-#[cfg(test)]
-mod tests;

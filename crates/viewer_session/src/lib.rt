@@ -18,6 +18,3 @@ pub use answer::Whole;
 pub use pass::{ViewerPass, Walked};
 pub use scene::{Cursor, Scene};
 pub use start::{StartFault, Started};
-
-#[cfg(test)]
-mod tests;

@@ -3,7 +3,7 @@
 ghost use Rattle.std.specs.Prelude.{◌≤◌, string_bytes};
 ghost use Rattle.http_connection.specs.Answers.{HasLength};
 
-use crate::{Served, ServedEnd, Viewers, ViewersAnswer, serve_connection};
+use http_connection::{Served, ServedEnd, Viewers, ViewersAnswer, serve_connection};
 use http_text::Route;
 use scene_ports::{GiveFault, MemoryLink, Outlet, give_all};
 use std::alloc::{AllocError, Global};

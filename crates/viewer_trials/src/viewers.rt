@@ -5,7 +5,6 @@ ghost use Rattle.std.specs.List.{All};
 ghost use Rattle.walk_laws.specs.Plans.{FitsLayout};
 ghost use Rattle.viewer_session.specs.Sessions.{IsPassOf, IsCursorOf};
 
-use crate::{Advance, Cursor, Scene, StartFault, Started, ViewerPass};
 use framed_walk::framed;
 use scene_frames::HoldStop;
 use scene_ports::{Fetch, FileSource};
@@ -15,6 +14,7 @@ use std::test::Fail;
 use std::thread::{Threads, join};
 use tile_coords::{Plan, Region, Scheme, WalkEnd, Word};
 use tile_word::word_at;
+use viewer_session::{Advance, Cursor, Scene, StartFault, Started, ViewerPass};
 
 // A quadtree in subtrees of two levels, of three and of four levels in all, with no contents.
 const THREE_LEVELS: &str =
