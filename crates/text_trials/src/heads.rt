@@ -172,7 +172,7 @@ fn targets(rt: HostRuntime) -> Result<(), Fail> {
         ),
     ];
     for (target, wanted, line) in rows {
-        let mut out = String::from_str(alloc, "> ")?;
+        let mut out = Vec::from_slice(alloc, b"> ")?;
         assert!(rt; route(target, &mut out) == Ok(wanted));
         assert!(rt; out.as_slice().strip_prefix(b"> ") == Some(line));
     }
