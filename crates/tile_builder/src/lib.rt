@@ -11,3 +11,6 @@ mod subtree;
 pub use builder::{BuildStop, Built, build};
 pub use tile_occupancy::{Occupancy, OccupancyFault, generate};
 pub use tileset_write::layout_text;
+
+#[cfg(test)]
+mod tests;

@@ -1,7 +1,7 @@
 use Rattle.std.proofs.Common.{ap, ◌∙◌}
 use Rattle.tile_occupancy.specs.Occupied.{Occupancy}
 use Rattle.tile_builder.proofs.Rows.{worked_names}
-use Rattle.writing_trials.proofs.builds.build_worked.Goals as goal
+use Rattle.tile_builder.proofs.tests.build_worked.Goals as goal
 
 pub build-requires-clause-names : goal.build-requires-clause-names
 build-requires-clause-names c =

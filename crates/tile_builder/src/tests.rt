@@ -2,10 +2,10 @@
 // worked out to have.
 ghost use Rattle.std.specs.Prelude.{◌≡◌, ◌∷◌, [], IfOk, codes};
 
+use crate::{BuildStop, Built, Occupancy, build};
 use scene_ports::MemoryKeeper;
 use std::alloc::{AllocError, Global};
 use std::test::Fail;
-use tile_builder::{BuildStop, Built, Occupancy, build};
 use tile_coords::{Scheme, Word};
 use tileset_json::Layout;
 use uri_template::Template;
