@@ -3,13 +3,14 @@ use crate::bits::Bits;
 use crate::tileset::Layout;
 use crate::tree::Scheme;
 use serde_json::{Map, Value};
+use std::io;
 
 const HEADER_BYTES: usize = 24;
+const MOST_BYTES: u64 = 16_777_216;
 
-#[derive(Clone, Copy)]
 struct Buffer {
     length: u64,
-    external: bool,
+    uri: Option<String>,
 }
 
 #[derive(Clone, Copy)]
@@ -35,7 +36,11 @@ fn u64_at(bytes: &[u8], at: usize) -> u64 {
     u64::from_le_bytes(*bytes[at..].first_chunk().unwrap())
 }
 
-fn parts(file: &[u8]) -> Result<(&[u8], &[u8]), u64> {
+// The JSON part, and the bytes of the inner buffer, of which a file that is JSON alone has none.
+fn parts(file: &[u8]) -> Result<(&[u8], Option<&[u8]>), u64> {
+    if file.iter().find(|byte| !b" \t\r\n".contains(byte)) == Some(&b'{') {
+        return Ok((file, None));
+    }
     if file.len() < HEADER_BYTES {
         return Err(3);
     }
@@ -50,16 +55,16 @@ fn parts(file: &[u8]) -> Result<(&[u8], &[u8]), u64> {
     if end > file.len() as u64 {
         return Err(6);
     }
-    Ok((&file[HEADER_BYTES..json_end as usize], &file[json_end as usize..end as usize]))
+    Ok((&file[HEADER_BYTES..json_end as usize], Some(&file[json_end as usize..end as usize])))
 }
 
 fn buffer_of(value: &Value) -> Option<Buffer> {
     let length = value.get("byteLength")?.as_u64()?;
-    let external = match value.get("uri") {
-        Some(uri) => uri.is_string().then_some(true)?,
-        None => false,
+    let uri = match value.get("uri") {
+        Some(uri) => Some(uri.as_str()?.to_string()),
+        None => None,
     };
-    Some(Buffer { length, external })
+    Some(Buffer { length, uri })
 }
 
 fn view_of(value: &Value) -> Option<View> {
@@ -97,45 +102,93 @@ fn list_of<T>(record: &Map<String, Value>, name: &str, item: impl Fn(&Value) -> 
 struct Held<'f> {
     buffers: Vec<Buffer>,
     views: Vec<View>,
-    binary: &'f [u8],
+    binary: Option<&'f [u8]>,
+    // The bytes of each buffer that is a file of its own, once it was read.
+    outer: Vec<Option<Vec<u8>>>,
 }
 
 impl Held<'_> {
-    fn parts(&self, view: u64) -> Option<(View, Buffer)> {
+    fn parts(&self, view: u64) -> Option<(View, &Buffer)> {
         let view = *self.views.get(usize::try_from(view).ok()?)?;
-        Some((view, *self.buffers.get(usize::try_from(view.buffer).ok()?)?))
+        Some((view, self.buffers.get(usize::try_from(view.buffer).ok()?)?))
     }
 
-    // The first of the faults 12 to 15 of the used bitstreams, each fault over all of them before the next one.
-    fn fault(&self, used: &[(Availability, u64)]) -> Option<u64> {
-        let streams: Vec<(Option<(View, Buffer)>, u64)> = used
+    fn bytes(&self, buffer: u64) -> Option<&[u8]> {
+        match self.buffers[buffer as usize].uri {
+            Some(_) => self.outer[buffer as usize].as_deref(),
+            None => self.binary,
+        }
+    }
+
+    // Reads the files of the buffers that are used, each once, with what is left of the most bytes of them together.
+    fn read_outer(&mut self, used: &[(Availability, u64)], fetch: &Fetching) -> io::Result<Option<u64>> {
+        let mut left = MOST_BYTES;
+        for (availability, _) in used {
+            let Availability::Stream { view, .. } = availability else { continue };
+            let Some((view, buffer)) = self.parts(*view) else { continue };
+            let (place, Some(uri)) = (view.buffer as usize, &buffer.uri) else { continue };
+            if self.outer[place].is_some() {
+                continue;
+            }
+            match fetch(uri, left)? {
+                Ok(bytes) => {
+                    left -= bytes.len() as u64;
+                    self.outer[place] = Some(bytes);
+                }
+                Err(1) => return Ok(Some(19)),
+                Err(_) => return Ok(Some(20)),
+            }
+        }
+        Ok(None)
+    }
+
+    // The first of the faults 12 to 15, 19 and 20 of the used bitstreams, each fault over all of them before the next one.
+    fn fault(&mut self, used: &[(Availability, u64)], fetch: &Fetching) -> io::Result<Option<u64>> {
+        let is_known = |availability: &Availability| match availability {
+            Availability::Stream { view, .. } => self.parts(*view).is_some(),
+            Availability::Constant(_) => true,
+        };
+        if !used.iter().all(|(availability, _)| is_known(availability)) {
+            return Ok(Some(12));
+        }
+        let lacks_inner = |availability: &Availability| match availability {
+            Availability::Stream { view, .. } => self.binary.is_none() && self.parts(*view).unwrap().1.uri.is_none(),
+            Availability::Constant(_) => false,
+        };
+        if used.iter().any(|(availability, _)| lacks_inner(availability)) {
+            return Ok(Some(13));
+        }
+        if let Some(fault) = self.read_outer(used, fetch)? {
+            return Ok(Some(fault));
+        }
+        Ok(self.fault_of_views(used))
+    }
+
+    fn fault_of_views(&self, used: &[(Availability, u64)]) -> Option<u64> {
+        let streams: Vec<((View, &Buffer), u64)> = used
             .iter()
             .filter_map(|(availability, needed)| match availability {
-                Availability::Stream { view, .. } => Some((self.parts(*view), *needed)),
+                Availability::Stream { view, .. } => Some((self.parts(*view)?, *needed)),
                 Availability::Constant(_) => None,
             })
             .collect();
-        let Some(known) = streams.iter().map(|(parts, needed)| parts.map(|parts| (parts, *needed))).collect::<Option<Vec<_>>>() else {
-            return Some(12);
-        };
-        if known.iter().any(|((_, buffer), _)| buffer.external) {
-            return Some(13);
-        }
         let is_out = |view: &View, buffer: &Buffer| {
-            view.offset > buffer.length || view.length > buffer.length - view.offset || buffer.length > self.binary.len() as u64
+            let held = self.bytes(view.buffer).map_or(0, |bytes| bytes.len() as u64);
+            view.offset > buffer.length || view.length > buffer.length - view.offset || buffer.length > held
         };
-        if known.iter().any(|((view, buffer), _)| is_out(view, buffer)) {
+        if streams.iter().any(|((view, buffer), _)| is_out(view, buffer)) {
             return Some(14);
         }
-        known.iter().any(|((view, _), needed)| view.length < needed.div_ceil(8)).then_some(15)
+        streams.iter().any(|((view, _), needed)| view.length < needed.div_ceil(8)).then_some(15)
     }
 
     fn bits(&self, (availability, needed): (Availability, u64)) -> Bits {
         match availability {
             Availability::Constant(bit) => Bits::Constant { bit, count: needed },
             Availability::Stream { view, .. } => {
-                let start = self.views[view as usize].offset as usize;
-                let bytes = self.binary[start..start + needed.div_ceil(8) as usize].to_vec();
+                let view = self.views[view as usize];
+                let start = view.offset as usize;
+                let bytes = self.bytes(view.buffer).unwrap_or(&[])[start..start + needed.div_ceil(8) as usize].to_vec();
                 Bits::Bytes { bytes, count: needed }
             }
         }
@@ -165,8 +218,25 @@ fn has_orphan(scheme: Scheme, tiles: &Bits, nodes: u64) -> bool {
     }
 }
 
+/// The bytes of a file beside the subtree file, of at most so many bytes. The inner error is the fault of one that is missing
+/// or too long.
+pub type Fetching<'f> = dyn Fn(&str, u64) -> io::Result<Result<Vec<u8>, u64>> + 'f;
+
 /// The bits of the subtree whose root has this level.
-pub fn decode(layout: &Layout, root_level: u32, file: &[u8]) -> Result<Subtree, u64> {
+pub fn decode(layout: &Layout, root_level: u32, file: &[u8], fetch: &Fetching) -> io::Result<Result<Subtree, u64>> {
+    let (mut held, used) = match record_of(layout, file) {
+        Ok(record) => record,
+        Err(fault) => return Ok(Err(fault)),
+    };
+    if let Some(fault) = held.fault(&used, fetch)? {
+        return Ok(Err(fault));
+    }
+    Ok(bits_of(layout, root_level, &held, &used))
+}
+
+type Used = Vec<(Availability, u64)>;
+
+fn record_of<'f>(layout: &Layout, file: &'f [u8]) -> Result<(Held<'f>, Used), u64> {
     let (json, binary) = parts(file)?;
     let value: Value = serde_json::from_slice(json).map_err(|_| 7u64)?;
     let record = value.as_object().ok_or(8u64)?;
@@ -186,10 +256,11 @@ pub fn decode(layout: &Layout, root_level: u32, file: &[u8]) -> Result<Subtree, 
         Some(used)
     })()
     .ok_or(11u64)?;
-    let held = Held { buffers, views, binary };
-    if let Some(fault) = held.fault(&used) {
-        return Err(fault);
-    }
+    let outer = buffers.iter().map(|_| None).collect();
+    Ok((Held { buffers, views, binary, outer }, used))
+}
+
+fn bits_of(layout: &Layout, root_level: u32, held: &Held, used: &Used) -> Result<Subtree, u64> {
     let mut bits: Vec<Bits> = used.iter().map(|used| held.bits(*used)).collect();
     if !used.iter().zip(&bits).all(|(used, bits)| is_counted(*used, bits)) {
         return Err(16);

@@ -15,16 +15,16 @@ const PIECE: usize = 32768;
 
 /// Where files come from. The inner error is the fault of a file that is missing or too long.
 pub trait Files {
-    fn fetch(&self, name: &str) -> io::Result<Result<Vec<u8>, u64>>;
+    fn fetch(&self, name: &str, most: u64) -> io::Result<Result<Vec<u8>, u64>>;
 }
 
 /// The current folder.
 pub struct Folder;
 
 impl Files for Folder {
-    fn fetch(&self, name: &str) -> io::Result<Result<Vec<u8>, u64>> {
+    fn fetch(&self, name: &str, most: u64) -> io::Result<Result<Vec<u8>, u64>> {
         match fs::metadata(name) {
-            Ok(data) if data.len() > MOST_BYTES => Ok(Err(2)),
+            Ok(data) if data.len() > most => Ok(Err(2)),
             Ok(_) => fs::read(name).map(Ok),
             Err(error) if error.kind() == ErrorKind::NotFound => Ok(Err(1)),
             Err(error) => Err(error),
@@ -33,7 +33,7 @@ impl Files for Folder {
 }
 
 impl Files for HashMap<String, Vec<u8>> {
-    fn fetch(&self, name: &str) -> io::Result<Result<Vec<u8>, u64>> {
+    fn fetch(&self, name: &str, _most: u64) -> io::Result<Result<Vec<u8>, u64>> {
         Ok(self.get(name).cloned().ok_or(1))
     }
 }
@@ -79,9 +79,15 @@ pub struct Scene<F> {
     contents: Vec<Template>,
 }
 
+// The name of a file that a URI names from the file of this name.
+fn beside(name: &str, uri: &str) -> String {
+    let folder = name.rfind('/').map_or(0, |slash| slash + 1);
+    format!("{}{uri}", &name[..folder])
+}
+
 impl<F: Files> Scene<F> {
     pub fn open(files: F) -> io::Result<Scene<F>> {
-        let bytes = files.fetch("tileset.json")?.expect("a tileset.json");
+        let bytes = files.fetch("tileset.json", MOST_BYTES)?.expect("a tileset.json");
         let layout = Layout::read(&bytes).expect("a layout");
         let axes = layout.scheme.axes();
         Ok(Scene {
@@ -99,7 +105,10 @@ impl<F: Files> Scene<F> {
     fn read(&self, level: u32, root: Node) -> io::Result<Result<Subtree, u64>> {
         let mut name = String::new();
         self.subtree.fill(level, root.coordinates, &mut name);
-        Ok(self.files.fetch(&name)?.and_then(|bytes| decode(&self.layout, level, &bytes)))
+        match self.files.fetch(&name, MOST_BYTES)? {
+            Ok(bytes) => decode(&self.layout, level, &bytes, &|uri, most| self.files.fetch(&beside(&name, uri), most)),
+            Err(fault) => Ok(Err(fault)),
+        }
     }
 
     // The subtrees of these roots, up to the first faulty one, whose fault comes behind them.

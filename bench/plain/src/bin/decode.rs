@@ -5,6 +5,7 @@ use plain::tileset::Layout;
 use plain::timed;
 use plain::tree::Scheme;
 use std::hint::black_box;
+use std::io;
 
 const NODE_BYTES: usize = 37_450;
 const FIRST_VIEW: &str = "{\"bufferViews\":[{\"buffer\":0,\"byteLength\":37450,\"byteOffset\":0}";
@@ -25,10 +26,15 @@ fn file(views: usize, sentences: usize) -> Vec<u8> {
     bytes
 }
 
+// The files have no outer buffers.
+fn no_file(_uri: &str, _most: u64) -> io::Result<Result<Vec<u8>, u64>> {
+    Ok(Err(1))
+}
+
 fn sum_of_decodes(layout: &Layout, file: &[u8], calls: u64) -> u64 {
     let mut sum = 0u64;
     for _ in 0..calls {
-        if let Ok(subtree) = decode(layout, 0, file) {
+        if let Ok(Ok(subtree)) = decode(layout, 0, file, &no_file) {
             sum = sum.wrapping_add(sum_of_bits(&subtree));
         }
     }
