@@ -8,7 +8,6 @@ use Rattle.std.proofs.Math.Nat.{suc-ne-zero}
 use Rattle.implicit_tiling.specs.declared.Scheme.{Scheme}
 use Rattle.implicit_tiling.specs.declared.Scheme.TheVariants.{Quad, Oct}
 use Rattle.implicit_tiling.specs.Limits.{most_levels, most_contents}
-use Rattle.implicit_tiling.specs.Checks.{refuse}
 use Rattle.implicit_tiling.specs.Tile.{Tile, axes, depth_of}
 use Rattle.implicit_tiling.specs.Files.{Files}
 use Rattle.implicit_tiling.specs.Region.{Region, Plan, region_of, some_axis}
@@ -34,7 +33,7 @@ use Rattle.subtree_outcome.proofs.Reading.{of_told}
 use Rattle.request_text.proofs.Found.{found_make_the_text}
 use Rattle.request_text.proofs.Words.{words_make_the_text}
 use Rattle.program_status.specs.declared.status.Status.{Status}
-use Rattle.program_status.specs.declared.status.Status.TheVariants.{Done, Faulted, Usage, BadLayout, ReadFault, WriteFault, InputFault, Memory, InputLong}
+use Rattle.program_status.specs.declared.status.Status.TheVariants.{Done, Faulted, Usage, BadLayout, ReadFault, WriteFault, InputFault, Memory, InputLong, ListenFault}
 use Rattle.commands.specs.Commands.{Wish, promised}
 use Rattle.commands.specs.Replies.{Reply, layout_wanted, reply_over, reply_in, Agrees, IsGiven, IsBegun, Replies}
 use Rattle.commands.specs.Tiles.{end_status, walk_status, plan_reply, line_reply}
@@ -187,6 +186,7 @@ early_replies of all wanted Faulted before early agrees = absurd early
 early_replies of all wanted Usage before early agrees = absurd early
 early_replies of all wanted InputFault before early agrees = absurd early
 early_replies of all wanted InputLong before early agrees = absurd early
+early_replies of all wanted ListenFault before early agrees = absurd early
 
 -- what is wanted of files that are told
 pub told_wanted : (told : Option Files) (of : Scene → Reply) (P : Result Reply Status → Type 0) → IfSome told (λ all. P (reply_over of all (layout_wanted all))) → IfSome (reply_in of told) P

@@ -6,7 +6,7 @@ use Rattle.program_status.specs.Sets.{IsOneOf}
 use Rattle.program_status.proofs.Members.{in_larger, numbered}
 use Rattle.program_status.specs.declared.status.Status.{Status}
 use Rattle.program_status.specs.declared.status.Status.TheVariants.{Done, Faulted, Usage, BadLayout, WriteFault, Memory}
-use Rattle.commands.specs.Commands.{Wish, tiles, check, make, survey, promised}
+use Rattle.commands.specs.Commands.{Wish, tiles, check, make, survey, replay, batch, serve, promised}
 use Rattle.commands.specs.Replies.{early_ends}
 use Rattle.commands.specs.Tiles.{tiles_ends}
 use Rattle.commands.specs.Check.{check_ends}
@@ -34,6 +34,9 @@ memory_ends (Some (tiles line)) = tt
 memory_ends (Some check) = tt
 memory_ends (Some (make r)) = tt
 memory_ends (Some (survey r)) = tt
+memory_ends (Some (replay f p)) = tt
+memory_ends (Some (batch w f)) = tt
+memory_ends (Some (serve p v f)) = tt
 
 pub memory_leaves : (found : Option Wish) (kept : Option Files) → (promised found).leaves kept kept Memory
 memory_leaves None kept = refl
@@ -41,6 +44,9 @@ memory_leaves (Some (tiles line)) kept = refl
 memory_leaves (Some check) kept = refl
 memory_leaves (Some (make r)) kept = nothing_made r kept
 memory_leaves (Some (survey r)) kept = refl
+memory_leaves (Some (replay f p)) kept = refl
+memory_leaves (Some (batch w f)) kept = refl
+memory_leaves (Some (serve p v f)) kept = refl
 
 -- where nothing was given, no file has to stand
 pub nothing_first : (found : Option Wish) (kept : Option Files) (before : Option (List ℕ)) → (promised found).first kept kept before before
@@ -49,3 +55,6 @@ nothing_first (Some (tiles line)) kept before = tt
 nothing_first (Some check) kept before = tt
 nothing_first (Some (make r)) kept before = nothing_put r kept before
 nothing_first (Some (survey r)) kept before = tt
+nothing_first (Some (replay f p)) kept before = tt
+nothing_first (Some (batch w f)) kept before = tt
+nothing_first (Some (serve p v f)) kept before = tt

@@ -16,7 +16,7 @@ abbrev pub has_flag : List (List ℕ) → Bool
 has_flag [] = false
 has_flag (w ∷ ws) = if bytes_eq w (45 ∷ 45 ∷ []) then false else is_some (long_of w) || (is_some (short_of w) || has_flag ws)
 
-no_bool : false ≡ true → ⊥
+pub no_bool : false ≡ true → ⊥
 no_bool h = grind (arith, h)
 
 pub true_of : (b : Bool) → (b ≡ false → ⊥) → b ≡ true
@@ -31,7 +31,7 @@ not_three (a ∷ b ∷ []) n = refl
 not_three (a ∷ b ∷ c ∷ []) n = absurd (n refl)
 not_three (a ∷ b ∷ c ∷ d ∷ more) n = refl
 
-none_after : {A B : Type 0} (o : Option A) (f : A → Option B) → ((n : A) → f n ≡ None) → option_and_then f o ≡ None
+pub none_after : {A B : Type 0} (o : Option A) (f : A → Option B) → ((n : A) → f n ≡ None) → option_and_then f o ≡ None
 none_after None f h = refl
 none_after (Some n) f h = h n
 
@@ -107,7 +107,7 @@ pieces_from_hyphen (piece ∷ pieces) = if_none _ (numbers ((45 ∷ piece) ∷ p
 is_hyphen : (c : ℕ) → (c == 45) ≡ true → c ≡ 45
 is_hyphen c h = grind (arith, nat_tests, h)
 
-no_number : (w : List ℕ) → begins_with_hyphen w ≡ true → number w ≡ None
+pub no_number : (w : List ℕ) → begins_with_hyphen w ≡ true → number w ≡ None
 no_number [] h = absurd (no_bool h)
 no_number (c ∷ cs) h = ap (λ d. number (d ∷ cs)) (is_hyphen c h) ∙ number_from_hyphen cs
 

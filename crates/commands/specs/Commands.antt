@@ -8,22 +8,27 @@ use Rattle.request_text.specs.Lines.{line_seen}
 use Rattle.tileset_make.specs.declared.recipe.Recipe.{Recipe}
 use Rattle.program_status.specs.declared.status.Status.TheVariants.{Usage, Memory}
 use Rattle.commands.specs.declared.program.Asked.{Asked}
-use Rattle.commands.specs.declared.program.Asked.TheVariants.{Tiles, Check, Make, Survey}
+use Rattle.commands.specs.declared.program.Asked.TheVariants.{Tiles, Check, Make, Survey, Replay, Batch, Serve}
 use Rattle.commands.specs.declared.words.WordFault.{WordFault}
 use Rattle.commands.specs.declared.words.WordFault.TheVariants as fault
-use Rattle.commands.specs.Words.{recipe_of_words, without_dashes}
+use Rattle.commands.specs.Words.{recipe_of_words, without_dashes, seats_of_word, frames_of_word, port_of_word}
 use Rattle.commands.specs.Promise.{Promise, LeavesAll, NeedsNoFile}
 use Rattle.commands.specs.Tiles.{tiles_promise}
 use Rattle.commands.specs.Check.{check_promise}
 use Rattle.commands.specs.Make.{make_promise}
 use Rattle.commands.specs.Survey.{survey_promise, most_surveyed_levels}
 
--- the answer to a request line, a check of all subtree files, the files of a recipe, or a survey of them
+-- the answer to a request line; a check of all subtree files; the files of a recipe, or a survey of them; the replies to a
+-- script by so many frames and passes; the answers to many request lines by so many workers and frames; or the answers to
+-- the requests at a port by so many viewers and frames
 pub data Wish : Type 0 where
   tiles : Line → Wish
   check : Wish
   make : Recipe → Wish
   survey : Recipe → Wish
+  replay : ℕ → ℕ → Wish
+  batch : ℕ → ℕ → Wish
+  serve : ℕ → ℕ → ℕ → Wish
 
 -- what the code calls them
 abbrev pub asked_seen : Asked → Wish
@@ -31,8 +36,12 @@ asked_seen (Tiles line) = tiles (line_seen line)
 asked_seen Check = check
 asked_seen (Make recipe) = make recipe
 asked_seen (Survey recipe) = survey recipe
+asked_seen (Replay frames passes) = replay frames passes
+asked_seen (Batch workers frames) = batch workers frames
+asked_seen (Serve port viewers frames) = serve port viewers frames
 
--- ---- the words of each command: three words of the forms of a line; none; a recipe; and one of few levels of a subtree
+-- ---- the words of each command: three words of the forms of a line; none; a recipe; one of few levels of a subtree; and
+-- numbers, each in its range
 
 abbrev pub tiles_asked : List (List ℕ) → Option Wish
 tiles_asked words = option_map tiles (line_of_words words)
@@ -50,6 +59,22 @@ surveyed recipe = if nat_le recipe.subtree_levels most_surveyed_levels then Some
 abbrev pub survey_asked : List (List ℕ) → Option Wish
 survey_asked words = option_and_then surveyed (recipe_of_words words)
 
+abbrev pub replay_asked : List (List ℕ) → Option Wish
+replay_asked (frames ∷ passes ∷ []) = option_and_then (λ f. option_map (λ p. replay f p) (seats_of_word passes))
+    (frames_of_word frames)
+replay_asked words = None
+
+abbrev pub batch_asked : List (List ℕ) → Option Wish
+batch_asked (workers ∷ frames ∷ []) = option_and_then (λ w. option_map (λ f. batch w f) (frames_of_word frames))
+    (seats_of_word workers)
+batch_asked words = None
+
+abbrev pub serve_asked : List (List ℕ) → Option Wish
+serve_asked (port ∷ viewers ∷ frames ∷ []) =
+    option_and_then (λ p. option_and_then (λ v. option_map (λ f. serve p v f) (frames_of_word frames))
+    (seats_of_word viewers)) (port_of_word port)
+serve_asked words = None
+
 -- what is asked for by a command's name and its words
 abbrev pub asked : List (List ℕ) → Option Wish
 asked [] = None
@@ -57,11 +82,15 @@ asked (name ∷ words) =
     if bytes_eq name (codes "tiles") then tiles_asked (without_dashes words)
     else (if bytes_eq name (codes "check") then check_asked (without_dashes words)
     else (if bytes_eq name (codes "make") then make_asked (without_dashes words)
-    else (if bytes_eq name (codes "survey") then survey_asked (without_dashes words) else None)))
+    else (if bytes_eq name (codes "survey") then survey_asked (without_dashes words)
+    else (if bytes_eq name (codes "replay") then replay_asked (without_dashes words)
+    else (if bytes_eq name (codes "batch") then batch_asked (without_dashes words)
+    else (if bytes_eq name (codes "serve") then serve_asked (without_dashes words) else None))))))
 
 -- ---- what is promised
 
--- words that ask for nothing are a usage fault, but where there is no memory to read them
+-- words that ask for nothing, or for a command of another call, are a usage fault, but where there is no memory to read
+-- them
 abbrev pub refused_promise : Promise
 refused_promise = record {
   reply = λ told. Some (Err Usage);
@@ -79,6 +108,9 @@ promised (Some (tiles line)) = tiles_promise line
 promised (Some check) = check_promise
 promised (Some (make recipe)) = make_promise recipe
 promised (Some (survey recipe)) = survey_promise recipe
+promised (Some (replay frames passes)) = refused_promise
+promised (Some (batch workers frames)) = refused_promise
+promised (Some (serve port viewers frames)) = refused_promise
 
 -- ---- the reading of words
 

@@ -1,11 +1,12 @@
 -- The words behind a command's name, and the forms that several commands share (this project's own).
-use Rattle.std.specs.Prelude.{ℕ, Bool, true, false, ◌==◌, List, [], ◌∷◌, codes, Option, Some, None, option_and_then}
+use Rattle.std.specs.Prelude.{ℕ, Bool, false, ◌==◌, ◌&&◌, nat_le, List, [], ◌∷◌, codes, Option, Some, None, option_and_then}
 use Rattle.std.specs.Prelude.{if◌then◌else◌}
 use Rattle.std.specs.List.{list_any}
 use Rattle.std.specs.Str.{bytes_eq}
 use Rattle.implicit_tiling.specs.declared.Scheme.{Scheme}
 use Rattle.implicit_tiling.specs.declared.Scheme.TheVariants.{Quad, Oct}
-use Rattle.implicit_tiling.specs.Request.{numbers}
+use Rattle.frame_pool.specs.Frames.{most_frames}
+use Rattle.implicit_tiling.specs.Request.{number, numbers}
 use Rattle.tileset_make.specs.Chosen.{recipe_of}
 use Rattle.tileset_make.specs.declared.recipe.Recipe.{Recipe}
 
@@ -21,6 +22,29 @@ begins_with_hyphen (c ∷ cs) = c == 45
 
 abbrev pub has_hyphen : List (List ℕ) → Bool
 has_hyphen words = list_any begins_with_hyphen words
+
+-- ---- numbers of seats, frames and ports
+
+-- the most passes, viewers and workers, of each of which there is at least one
+abbrev pub most_seats : ℕ
+most_seats = 64
+
+-- the last port
+abbrev pub last_port : ℕ
+last_port = 65535
+
+-- the number that a word writes, of 1 to a last one
+abbrev pub number_to : ℕ → List ℕ → Option ℕ
+number_to last word = option_and_then (λ n. if nat_le 1 n && nat_le n last then Some n else None) (number word)
+
+abbrev pub seats_of_word : List ℕ → Option ℕ
+seats_of_word word = number_to most_seats word
+
+abbrev pub frames_of_word : List ℕ → Option ℕ
+frames_of_word word = number_to most_frames word
+
+abbrev pub port_of_word : List ℕ → Option ℕ
+port_of_word word = number_to last_port word
 
 -- ---- SCHEME LEVELS SUBTREE CONTENTS POINTS NUMBER
 

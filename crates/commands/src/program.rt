@@ -7,7 +7,7 @@ ghost use Rattle.commands.specs.Commands.{asked, asked_seen, promised, IsReadAs}
 ghost use Rattle.commands.specs.Replies.{Replies, IsGiven, IsBeforeWriting};
 
 use crate::words::WordFault;
-use crate::{check, make, survey, tiles};
+use crate::{batch, check, make, replay, serve, survey, tiles};
 use program_status::Status;
 use request_text::Line;
 use scene_ports::{FileKeeper, FileSource, Inlet, Outlet};
@@ -18,13 +18,35 @@ use tileset_make::Recipe;
 #[derive(Debug, Drop)]
 pub enum Asked {
     /// The answer to a request line, LEVEL LO HI.
-    Tiles { line: Line },
+    Tiles {
+        line: Line,
+    },
     /// A check of all subtree files.
     Check,
     /// The files of a recipe, SCHEME LEVELS SUBTREE CONTENTS POINTS NUMBER.
-    Make { recipe: Recipe },
+    Make {
+        recipe: Recipe,
+    },
     /// A survey of the files of a recipe, whose subtrees have at most 4 levels.
-    Survey { recipe: Recipe },
+    Survey {
+        recipe: Recipe,
+    },
+    /// The replies to the script of the input, FRAMES PASSES: 1 to 1,024 and 1 to 64.
+    Replay {
+        frames: u32,
+        passes: u32,
+    },
+    /// The answers to the request lines of the input, WORKERS FRAMES: 1 to 64 and 1 to 1,024.
+    Batch {
+        workers: u32,
+        frames: u32,
+    },
+    /// The answers to requests over HTTP, PORT VIEWERS FRAMES: 1 to 65,535, 1 to 64 and 1 to 1,024.
+    Serve {
+        port: u32,
+        viewers: u32,
+        frames: u32,
+    },
 }
 
 /// What the words behind the program's name ask for: a command's name, then its words, of which the first that is
@@ -40,6 +62,9 @@ pub fn words_of(alloc: Global, words: &[String]) -> Result<Asked, WordFault>
         "check" => check::read(alloc, words),
         "make" => make::read(alloc, words),
         "survey" => survey::read(alloc, words),
+        "replay" => replay::read(alloc, words),
+        "batch" => batch::read(alloc, words),
+        "serve" => serve::read(alloc, words),
         _ => Err(WordFault::Usage),
     }
 }
@@ -134,5 +159,6 @@ fn run<S: FileSource, K: FileKeeper, O: Outlet>(
         Asked::Check => check::run(alloc, files, out),
         Asked::Make { recipe } => make::run(alloc, recipe, keep, out),
         Asked::Survey { recipe } => survey::run(alloc, recipe, out),
+        Asked::Replay { .. } | Asked::Batch { .. } | Asked::Serve { .. } => Status::Usage,
     }
 }

@@ -5,6 +5,7 @@ use Rattle.program_status.specs.declared.ending.ErrorLine.{ErrorLine}
 use Rattle.program_status.specs.declared.status.Status.{Status}
 use Rattle.program_status.specs.declared.status.Status.TheVariants.{Done, Faulted, Usage, BadLayout, ReadFault}
 use Rattle.program_status.specs.declared.status.Status.TheVariants.{WriteFault, InputFault, Memory, InputLong}
+use Rattle.program_status.specs.declared.status.Status.TheVariants.{ListenFault}
 
 -- the exit status
 abbrev pub exit_of : Status → ℕ
@@ -17,6 +18,7 @@ exit_of WriteFault = 5
 exit_of InputFault = 6
 exit_of Memory = 7
 exit_of InputLong = 8
+exit_of ListenFault = 11
 
 -- the status in words
 abbrev pub status_text : Status → List ℕ
@@ -29,6 +31,7 @@ status_text WriteFault = codes "write fault"
 status_text InputFault = codes "input fault"
 status_text Memory = codes "out of memory"
 status_text InputLong = codes "input too long"
+status_text ListenFault = codes "listen fault"
 
 abbrev pub line_text : ErrorLine → List ℕ
 line_text line = codes "view: " ++ status_text line.status

@@ -64,5 +64,6 @@ fn exit_code(status: Status) -> u8
         Status::InputFault => 6,
         Status::Memory => 7,
         Status::InputLong => 8,
+        Status::ListenFault => 11,
     }
 }

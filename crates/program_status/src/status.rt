@@ -22,6 +22,8 @@ pub enum Status {
     Memory,
     /// More bytes were read than are taken.
     InputLong,
+    /// The port can't be had, or no connection to it.
+    ListenFault,
 }
 
 /// What the program says of the status on standard error.
@@ -42,6 +44,7 @@ impl Display for Status {
             Status::InputFault => write!(f, "input fault"),
             Status::Memory => write!(f, "out of memory"),
             Status::InputLong => write!(f, "input too long"),
+            Status::ListenFault => write!(f, "listen fault"),
         }
     }
 }
