@@ -1,0 +1,2 @@
+pub mod Viewers
+pub mod Replies
