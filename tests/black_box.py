@@ -14,6 +14,8 @@ import examples
 import extremes
 import harness
 import making
+import many
+import serving
 import walking
 
 walking.cases()
@@ -22,6 +24,8 @@ edges.cases()
 buffers.cases()
 examples.cases()
 extremes.cases()
+serving.cases()
+many.cases()
 passed, failed = harness.counts["passed"], harness.counts["failed"]
 print(f"black box: {passed} passed, {failed} failed" + (f", of the cases with {harness.WORD!r}" if harness.WORD else ""))
 sys.exit(1 if failed or not passed else 0)

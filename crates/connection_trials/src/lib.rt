@@ -4,3 +4,6 @@
 
 #[cfg(test)]
 mod talks;
+
+#[cfg(test)]
+mod sockets;
