@@ -1,7 +1,8 @@
-//! What the plain programs share: the tree of tiles, bits, the files of a tileset, walks over them, and tilesets that are made.
+//! What the plain programs share: the tree of tiles, bits, pools of frames, the files of a tileset, walks over them, and tilesets that are made.
 pub mod bits;
 pub mod make;
 pub mod morton;
+pub mod pool;
 pub mod subtree;
 pub mod tileset;
 pub mod tree;
