@@ -231,6 +231,11 @@ complete_of told found wish S K O X before now status is replies read write =
     let P : Option Wish → Type 0 = λ o. IfSome ((promised o).reply told) (λ w. (status ≡ Memory) ⊎ (S ⊎ (K ⊎ (O ⊎ IsGiven w before now status)))) in
     subst P (sym is) (all_given_or_not ((promised (Some wish)).reply told) S K O X before now status replies read write)
 
+-- what was given of what was found to be asked for
+pub replies_of : (told : Option Files) (found : Option Wish) (wish : Wish) (before now : Option (List ℕ)) (status : Status) → found ≡ Some wish
+    → IfSome ((promised (Some wish)).reply told) (λ w. Replies w before now status) → IfSome ((promised found).reply told) (λ w. Replies w before now status)
+replies_of told found wish before now status is h = let P : Option Wish → Type 0 = λ o. IfSome ((promised o).reply told) (λ w. Replies w before now status) in subst P (sym is) h
+
 -- a failed write of what was found to be asked for
 pub failed_write_of : (found : Option Wish) (wish : Wish) (F O K : Type 0) → found ≡ Some wish → (F → O ⊎ (((promised (Some wish)).puts ≡ true) × K)) → F → O ⊎ (((promised found).puts ≡ true) × K)
 failed_write_of found wish F O K is cause = let P : Option Wish → Type 0 = λ o. F → O ⊎ (((promised o).puts ≡ true) × K) in subst P (sym is) cause

@@ -11,6 +11,7 @@ use Rattle.commands.specs.Replies.{early_ends}
 use Rattle.commands.specs.Tiles.{tiles_ends}
 use Rattle.commands.specs.Check.{check_ends}
 use Rattle.commands.proofs.Making.{nothing_made, nothing_put}
+use Rattle.commands.proofs.Playing.{nothing_played}
 
 -- a fault of the bytes of `tileset.json`
 pub early_number : (number : ℕ) → (3 ≤ number) × (number ≤ 12) → IsOneOf early_ends (BadLayout number)
@@ -58,3 +59,14 @@ nothing_first (Some (survey r)) kept before = tt
 nothing_first (Some (replay f p)) kept before = tt
 nothing_first (Some (batch w f)) kept before = tt
 nothing_first (Some (serve p v f)) kept before = tt
+
+pub memory_plays : (found : Option Wish) (told : Option Files) (left before : Option (List ℕ)) (faults : ℕ)
+    → (promised found).plays told left left before before faults faults Memory
+memory_plays None told left before faults = tt
+memory_plays (Some (tiles line)) told left before faults = tt
+memory_plays (Some check) told left before faults = tt
+memory_plays (Some (make r)) told left before faults = tt
+memory_plays (Some (survey r)) told left before faults = tt
+memory_plays (Some (replay f p)) told left before faults = nothing_played f p told left left before faults faults (omega arith)
+memory_plays (Some (batch w f)) told left before faults = tt
+memory_plays (Some (serve p v f)) told left before faults = tt

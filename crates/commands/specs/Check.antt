@@ -6,7 +6,7 @@ use Rattle.implicit_tiling.specs.Checked.{checked}
 use Rattle.implicit_tiling.specs.Text.{checked_text}
 use Rattle.program_status.specs.declared.status.Status.{Status}
 use Rattle.program_status.specs.declared.status.Status.TheVariants.{Done, Faulted, WriteFault}
-use Rattle.commands.specs.Promise.{Promise, LeavesAll, NeedsNoFile}
+use Rattle.commands.specs.Promise.{Promise, LeavesAll, NeedsNoFile, PlaysNothing}
 use Rattle.commands.specs.Replies.{Reply, reply_in, early_ends}
 
 -- a check that finds a fault ends so
@@ -29,4 +29,5 @@ check_promise = record {
   takes = false;
   leaves = LeavesAll;
   first = NeedsNoFile;
+  plays = PlaysNothing;
 }

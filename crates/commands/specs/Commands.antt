@@ -1,8 +1,9 @@
 -- The tables over all commands: what a command line may ask for, by which words, and what is promised (this project's
 -- own).
-use Rattle.std.specs.Prelude.{ℕ, ◌≡◌, nat_le, false, List, [], ◌∷◌, codes, Option, Some, None, option_and_then}
+use Rattle.std.specs.Prelude.{ℕ, ◌≡◌, ◌≤◌, nat_le, false, List, [], ◌∷◌, codes, Option, Some, None, option_and_then}
 use Rattle.std.specs.Prelude.{option_map, Result, Ok, Err, if◌then◌else◌}
 use Rattle.std.specs.Str.{bytes_eq}
+use Rattle.frame_pool.specs.Frames.{most_frames}
 use Rattle.implicit_tiling.specs.Request.{Line, line_of_words}
 use Rattle.request_text.specs.Lines.{line_seen}
 use Rattle.tileset_make.specs.declared.recipe.Recipe.{Recipe}
@@ -11,11 +12,12 @@ use Rattle.commands.specs.declared.program.Asked.{Asked}
 use Rattle.commands.specs.declared.program.Asked.TheVariants.{Tiles, Check, Make, Survey, Replay, Batch, Serve}
 use Rattle.commands.specs.declared.words.WordFault.{WordFault}
 use Rattle.commands.specs.declared.words.WordFault.TheVariants as fault
-use Rattle.commands.specs.Words.{recipe_of_words, without_dashes, seats_of_word, frames_of_word, port_of_word}
-use Rattle.commands.specs.Promise.{Promise, LeavesAll, NeedsNoFile}
+use Rattle.commands.specs.Words.{recipe_of_words, without_dashes, most_seats, seats_of_word, frames_of_word, port_of_word}
+use Rattle.commands.specs.Promise.{Promise, LeavesAll, NeedsNoFile, PlaysNothing}
 use Rattle.commands.specs.Tiles.{tiles_promise}
 use Rattle.commands.specs.Check.{check_promise}
 use Rattle.commands.specs.Make.{make_promise}
+use Rattle.commands.specs.Replay.{replay_promise}
 use Rattle.commands.specs.Survey.{survey_promise, most_surveyed_levels}
 
 -- the answer to a request line; a check of all subtree files; the files of a recipe, or a survey of them; the replies to a
@@ -87,6 +89,11 @@ asked (name ∷ words) =
     else (if bytes_eq name (codes "batch") then batch_asked (without_dashes words)
     else (if bytes_eq name (codes "serve") then serve_asked (without_dashes words) else None))))))
 
+-- the numbers of a script are within their limits
+abbrev pub HasNumbers : Wish → Type 0
+HasNumbers (replay frames passes) = (1 ≤ frames) × (frames ≤ most_frames) × (1 ≤ passes) × (passes ≤ most_seats)
+HasNumbers wish = Unit {0}
+
 -- ---- what is promised
 
 -- words that ask for nothing, or for a command of another call, are a usage fault, but where there is no memory to read
@@ -100,6 +107,7 @@ refused_promise = record {
   takes = false;
   leaves = LeavesAll;
   first = NeedsNoFile;
+  plays = PlaysNothing;
 }
 
 abbrev pub promised : Option Wish → Promise
@@ -108,7 +116,7 @@ promised (Some (tiles line)) = tiles_promise line
 promised (Some check) = check_promise
 promised (Some (make recipe)) = make_promise recipe
 promised (Some (survey recipe)) = survey_promise recipe
-promised (Some (replay frames passes)) = refused_promise
+promised (Some (replay frames passes)) = replay_promise frames passes
 promised (Some (batch workers frames)) = refused_promise
 promised (Some (serve port viewers frames)) = refused_promise
 

@@ -10,7 +10,7 @@ use Rattle.tileset_make.specs.declared.recipe.Recipe.{Recipe}
 use Rattle.tileset_make.specs.Recipes.{recipe_layout, recipe_words, recipe_files}
 use Rattle.program_status.specs.declared.status.Status.{Status}
 use Rattle.program_status.specs.declared.status.Status.TheVariants.{Done, WriteFault, Memory}
-use Rattle.commands.specs.Promise.{Promise}
+use Rattle.commands.specs.Promise.{Promise, PlaysNothing}
 use Rattle.commands.specs.Replies.{Reply}
 
 -- the reply to a recipe of which the files were put
@@ -51,4 +51,5 @@ make_promise r = record {
   takes = false;
   leaves = MakeLeaves r;
   first = PutsFirst r;
+  plays = PlaysNothing;
 }

@@ -18,10 +18,18 @@ pub record Promise : Type 1 where
   pub leaves : Option Files → Option Files → Status → Type 0
   -- what stands among the files that are kept by the time that any text is given
   pub first : Option Files → Option Files → Option (List ℕ) → Option (List ℕ) → Type 0
+  -- what is given where the text depends on the input and on fetches that fail: by the files that are told, what the inlet
+  -- had left and has, what was given before and now, the source's count of faults before and now, and the status
+  pub plays : Option Files → Option (List ℕ) → Option (List ℕ) → Option (List ℕ) → Option (List ℕ) → ℕ → ℕ → Status → Type 0
 
 -- all files that were kept stay as they were
 abbrev pub LeavesAll : Option Files → Option Files → Status → Type 0
 LeavesAll before now status = now ≡ before
+
+-- the text depends on neither
+abbrev pub PlaysNothing : Option Files → Option (List ℕ) → Option (List ℕ) → Option (List ℕ) → Option (List ℕ) → ℕ → ℕ
+    → Status → Type 0
+PlaysNothing told left leaves before now faults rose status = Unit {0}
 
 -- no file has to stand before the text
 abbrev pub NeedsNoFile : Option Files → Option Files → Option (List ℕ) → Option (List ℕ) → Type 0

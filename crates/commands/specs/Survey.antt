@@ -5,7 +5,7 @@ use Rattle.tileset_make.specs.declared.recipe.Recipe.{Recipe}
 use Rattle.tileset_make.specs.Recipes.{survey_of}
 use Rattle.program_status.specs.declared.status.Status.{Status}
 use Rattle.program_status.specs.declared.status.Status.TheVariants.{Done, WriteFault, Memory}
-use Rattle.commands.specs.Promise.{Promise, LeavesAll, NeedsNoFile}
+use Rattle.commands.specs.Promise.{Promise, LeavesAll, NeedsNoFile, PlaysNothing}
 use Rattle.commands.specs.Replies.{Reply}
 
 -- the most levels of a subtree of a survey
@@ -31,4 +31,5 @@ survey_promise r = record {
   takes = false;
   leaves = LeavesAll;
   first = NeedsNoFile;
+  plays = PlaysNothing;
 }

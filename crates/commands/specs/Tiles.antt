@@ -9,7 +9,7 @@ use Rattle.tile_coords.specs.declared.walk_end.WalkEnd.{WalkEnd}
 use Rattle.tile_coords.specs.declared.walk_end.WalkEnd.TheVariants.{Partial, Complete, TooMany, Fault}
 use Rattle.program_status.specs.declared.status.Status.{Status}
 use Rattle.program_status.specs.declared.status.Status.TheVariants.{Done, Faulted, Usage, WriteFault}
-use Rattle.commands.specs.Promise.{Promise, LeavesAll, NeedsNoFile}
+use Rattle.commands.specs.Promise.{Promise, LeavesAll, NeedsNoFile, PlaysNothing}
 use Rattle.commands.specs.Replies.{Reply, reply_in, early_ends}
 
 -- an answer that ends by a fault ends so
@@ -45,4 +45,5 @@ tiles_promise line = record {
   takes = false;
   leaves = LeavesAll;
   first = NeedsNoFile;
+  plays = PlaysNothing;
 }

@@ -1,9 +1,10 @@
 // The top call, and the tables over all commands: what a command line asks for, by which name, and what then runs.
-ghost use Rattle.std.specs.Prelude.{◌≡◌, ◌⊎◌, ◌≤◌, Some, true, false, map, string_bytes, IfSome};
+ghost use Rattle.std.specs.Prelude.{◌≡◌, ◌≢◌, ◌⊎◌, ◌≤◌, Some, true, false, map, string_bytes, IfSome};
 ghost use Rattle.std.specs.Io.KnownBytes.{Keeps};
 ghost use Rattle.scene_ports.specs.Counts.{Rose};
 ghost use Rattle.program_status.specs.Sets.{IsOneOf};
-ghost use Rattle.commands.specs.Commands.{asked, asked_seen, promised, IsReadAs};
+ghost use Rattle.commands.specs.Commands.{asked, asked_seen, promised, IsReadAs, HasNumbers};
+ghost use Rattle.input_bytes.specs.Input.{IsLong, IsShort};
 ghost use Rattle.commands.specs.Replies.{Replies, IsGiven, IsBeforeWriting};
 
 use crate::words::WordFault;
@@ -99,6 +100,14 @@ pub fn plain<S: FileSource, K: FileKeeper, I: Inlet, O: Outlet>(
         ⊎ (((promised (asked (map string_bytes words.now))).puts ≡ true)
         × Rose (K.faults keep.old) (K.faults keep.new)) }
 
+    // What is given where the text depends on the input, and the causes of what an input ends with.
+    ensures plays { (promised (asked (map string_bytes words.now))).plays (S.told files.old) (I.left input.old) (I.left input.new)
+        (O.given out.old) (O.given out.new) (S.faults files.old) (S.faults files.new) result }
+    ensures input_fault { result ≡ Status.InputFault → Rose (I.faults input.old) (I.faults input.new) }
+    ensures long { result ≡ Status.InputLong → IsLong (I.taken input.old) (I.taken input.new) }
+    ensures short { result ≢ Status.InputLong → IsShort (I.taken input.old) (I.taken input.new) }
+    ensures read_first { result ≡ Status.ReadFault → input.new ≡ input.old }
+
     // The files that are left, and which of them stand before any text.
     ensures leaves { (promised (asked (map string_bytes words.now))).leaves (K.kept keep.old) (K.kept keep.new) result }
     ensures first { (promised (asked (map string_bytes words.now))).first (K.kept keep.old) (K.kept keep.new)
@@ -116,24 +125,26 @@ pub fn plain<S: FileSource, K: FileKeeper, I: Inlet, O: Outlet>(
     ensures same { S.told files.new ≡ S.told files.old }
     ensures later_files { S.faults files.old ≤ S.faults files.new }
     ensures later_keep { K.faults keep.old ≤ K.faults keep.new }
+    ensures later_input { I.faults input.old ≤ I.faults input.new }
     ensures later_out { O.faults out.old ≤ O.faults out.new }
 {
-    let _ = input;
     match words_of(alloc, words) {
-        Ok(asked) => run(alloc, &asked, files, keep, out),
+        Ok(asked) => run(alloc, &asked, files, keep, input, out),
         Err(WordFault::Usage) => Status::Usage,
         Err(WordFault::Memory) => Status::Memory,
     }
 }
 
 // Runs what was asked for.
-fn run<S: FileSource, K: FileKeeper, O: Outlet>(
+fn run<S: FileSource, K: FileKeeper, I: Inlet, O: Outlet>(
     alloc: Global,
     asked: &Asked,
     files: &mut S,
     keep: &mut K,
+    input: &mut I,
     out: &mut O,
 ) -> Status
+    requires { HasNumbers (asked_seen asked.now) }
     ensures replies { IfSome ((promised (Some (asked_seen asked.now))).reply (S.told files.old))
         (λ wanted. Replies wanted (O.given out.old) (O.given out.new) result) }
     ensures ends { IsOneOf (promised (Some (asked_seen asked.now))).ends result }
@@ -141,6 +152,13 @@ fn run<S: FileSource, K: FileKeeper, O: Outlet>(
     ensures read_fault { result ≡ Status.ReadFault → Rose (S.faults files.old) (S.faults files.new) }
     ensures write_fault { result ≡ Status.WriteFault → Rose (O.faults out.old) (O.faults out.new)
         ⊎ (((promised (Some (asked_seen asked.now))).puts ≡ true) × Rose (K.faults keep.old) (K.faults keep.new)) }
+    ensures plays { (promised (Some (asked_seen asked.now))).plays (S.told files.old) (I.left input.old) (I.left input.new)
+        (O.given out.old) (O.given out.new) (S.faults files.old) (S.faults files.new) result }
+    ensures input_fault { result ≡ Status.InputFault → Rose (I.faults input.old) (I.faults input.new) }
+    ensures long { result ≡ Status.InputLong → IsLong (I.taken input.old) (I.taken input.new) }
+    ensures short { result ≢ Status.InputLong → IsShort (I.taken input.old) (I.taken input.new) }
+    ensures read_first { result ≡ Status.ReadFault → input.new ≡ input.old }
+    ensures untaken { (promised (Some (asked_seen asked.now))).takes ≡ false → input.new ≡ input.old }
     ensures leaves { (promised (Some (asked_seen asked.now))).leaves (K.kept keep.old) (K.kept keep.new) result }
     ensures first { (promised (Some (asked_seen asked.now))).first (K.kept keep.old) (K.kept keep.new)
         (O.given out.old) (O.given out.new) }
@@ -152,6 +170,7 @@ fn run<S: FileSource, K: FileKeeper, O: Outlet>(
     ensures same { S.told files.new ≡ S.told files.old }
     ensures later_files { S.faults files.old ≤ S.faults files.new }
     ensures later_keep { K.faults keep.old ≤ K.faults keep.new }
+    ensures later_input { I.faults input.old ≤ I.faults input.new }
     ensures later_out { O.faults out.old ≤ O.faults out.new }
 {
     match asked {
@@ -159,6 +178,9 @@ fn run<S: FileSource, K: FileKeeper, O: Outlet>(
         Asked::Check => check::run(alloc, files, out),
         Asked::Make { recipe } => make::run(alloc, recipe, keep, out),
         Asked::Survey { recipe } => survey::run(alloc, recipe, out),
-        Asked::Replay { .. } | Asked::Batch { .. } | Asked::Serve { .. } => Status::Usage,
+        Asked::Replay { frames, passes } => {
+            replay::run(alloc, *frames, *passes, files, input, out)
+        }
+        Asked::Batch { .. } | Asked::Serve { .. } => Status::Usage,
     }
 }

@@ -1,8 +1,9 @@
 use Rattle.std.proofs.Common.{map}
 use Rattle.std.specs.Prelude.{string_bytes}
 use Rattle.commands.specs.Commands.{asked, asked_seen, promised}
-use Rattle.commands.proofs.Answering.{of_wanted, nothing_begun, complete_of, failed_write_of}
-use Rattle.commands.proofs.Ends.{memory_ends, memory_leaves, nothing_first}
+use Rattle.commands.proofs.Answering.{of_wanted, nothing_begun, complete_of, failed_write_of, replies_of}
+use Rattle.commands.proofs.Ends.{memory_ends, memory_leaves, memory_plays, nothing_first}
+use Rattle.commands.proofs.Counted.{asked_within}
 use Rattle.commands.proofs.program.plain.Goals as goal
 
 pub returns-in-Ok-clause-complete : goal.returns-in-Ok-clause-complete
@@ -27,3 +28,14 @@ returns-in-Err-Memory-clause-first g c = nothing_first (asked (map string_bytes 
 
 pub returns-in-Err-Usage-clause-first : goal.returns-in-Err-Usage-clause-first
 returns-in-Err-Usage-clause-first g c = nothing_first (asked (map string_bytes c.args.words.now)) (g.K.FileKeeper.kept c.args.keep.now) (g.O.Outlet.given c.args.out.now)
+
+pub run-requires : goal.run-requires
+run-requires g c = asked_within (map string_bytes c.args.words.now) (asked_seen c.in-Ok.asked) c.in-Ok.ensures
+
+pub returns-in-Ok-clause-replies : goal.returns-in-Ok-clause-replies
+returns-in-Ok-clause-replies g c =
+    replies_of (g.S.FileSource.told c.args.files.now) (asked (map string_bytes c.args.words.now)) (asked_seen c.in-Ok.asked) _ _ _ c.in-Ok.ensures c.run.ensures.replies
+
+pub returns-in-Err-Memory-clause-plays : goal.returns-in-Err-Memory-clause-plays
+returns-in-Err-Memory-clause-plays g c =
+    memory_plays (asked (map string_bytes c.args.words.now)) (g.S.FileSource.told c.args.files.now) (g.I.Inlet.left c.args.input.now) (g.O.Outlet.given c.args.out.now) (g.S.FileSource.faults c.args.files.now)
