@@ -14,10 +14,12 @@ import examples
 import extremes
 import harness
 import making
+import replaying
 import walking
 
 walking.cases()
 making.cases()
+replaying.cases()
 edges.cases()
 buffers.cases()
 examples.cases()

@@ -116,7 +116,15 @@ fn play_input<S: FileSource, I: Inlet, O: Outlet>(
         Err(InputStop::Long) => return Status::InputLong,
         Err(InputStop::Memory) => return Status::Memory,
     };
-    match play(alloc, layout, frames as usize, passes as usize, &bytes, files, out) {
+    match play(
+        alloc,
+        layout,
+        frames as usize,
+        passes as usize,
+        &bytes,
+        files,
+        out,
+    ) {
         Ok(()) => Status::Done,
         Err(GiveFault::WriteFault) => Status::WriteFault,
         Err(GiveFault::Memory) => Status::Memory,
