@@ -29,7 +29,7 @@ BAD = ("", " ", "jump", "claim", "claim ", "claim  0", " claim 0", "claim 0 ", "
 
 
 @case
-def replay(name, files, words, script, wanted, status=0, stdin=None, stdout=None):
+def replay(name, files, words, script, wanted, status=0, stdin=None, stdout=None, message=None):
     """Runs the program over these files, on these bytes of standard input."""
     folder = tempfile.mkdtemp(prefix="view ")
     try:
@@ -38,7 +38,7 @@ def replay(name, files, words, script, wanted, status=0, stdin=None, stdout=None
         done = subprocess.run([PROGRAM, "replay"] + words, cwd=folder, stderr=subprocess.PIPE, timeout=120,
                               stdout=subprocess.PIPE if stdout is None else stdout, **given)
         seen = (done.returncode, (done.stdout or b"").decode(), done.stderr.decode())
-        due = (status, wanted, MESSAGES[status])
+        due = (status, wanted, MESSAGES[status] if message is None else message)
         report(name, [] if seen == due else [f"{seen[0]}, {seen[1][:300]!r}, {seen[2]!r}, not {due[0]}, {due[1][:300]!r}, {due[2]!r}"])
     finally:
         shutil.rmtree(folder)
@@ -71,7 +71,7 @@ def limit_cases():
     replay("replay_of_one_byte_too_many", tileset_a(), ["1", "1"], whole + b"c", "", 8)
     for words in ([], ["1"], ["1", "1", "1"], ["0", "1"], ["1", "01"], ["1025", "1"], ["1", "0"], ["1", "65"], ["1", "-1"]):
         replay("replay_of_the_words_" + "_".join(words or ["none"]), tileset_a(), words, b"claim 0\n", "", 2)
-    replay("replay_without_a_tileset", {}, ["1", "1"], b"claim 0\n", "", 3)
+    replay("replay_without_a_tileset", {}, ["1", "1"], b"claim 0\n", "", 3, message="view: layout fault 1\n")
 
 
 def device_cases():
