@@ -1,5 +1,5 @@
 -- What the start of a scene answers, and the passes that it gives (this project's own).
-use Rattle.std.specs.Prelude.{ℕ, ◌≡◌, [], ◌∷◌, Result, Ok, Err}
+use Rattle.std.specs.Prelude.{ℕ, ◌≡◌, ◌≤◌, [], ◌∷◌, Result, Ok, Err}
 use Rattle.implicit_tiling.specs.Scene.{Layout}
 use Rattle.viewer_session.specs.declared.start.Started.{Started}
 use Rattle.viewer_session.specs.declared.start.StartFault.{StartFault}
@@ -20,6 +20,13 @@ HasLayout read (Ok layout) = read ≡ Ok layout
 HasLayout read (Err (bad_layout n)) = read ≡ Err n
 HasLayout read (Err ReadFault) = Unit {0}
 HasLayout read (Err Memory) = Unit {0}
+
+-- a fault of `tileset.json` has a number of 1 to 12
+abbrev pub HasFaultNumber : {A : Type 0} → Result A StartFault → Type 0
+HasFaultNumber (Ok started) = Unit {0}
+HasFaultNumber (Err (bad_layout n)) = (1 ≤ n) × (n ≤ 12)
+HasFaultNumber (Err ReadFault) = Unit {0}
+HasFaultNumber (Err Memory) = Unit {0}
 
 -- a pass of the scene that has done nothing yet: its number has no grants
 pub record IsNewPass (scene : SceneSeen) (pass : PassSeen) : Type 0 where

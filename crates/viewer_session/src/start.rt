@@ -7,7 +7,7 @@ ghost use Rattle.scene_ports.specs.Counts.{Rose, one_more};
 ghost use Rattle.turn_lock.specs.Seats.{fresh};
 ghost use Rattle.shared_pool.specs.Seen.{first_note};
 ghost use Rattle.scene_frames.specs.Held.{IsOfScene};
-ghost use Rattle.viewer_session.specs.Starts.{HasStarted, HasLayout, IsNewPass};
+ghost use Rattle.viewer_session.specs.Starts.{HasStarted, HasLayout, HasFaultNumber, IsNewPass};
 
 use crate::pass::ViewerPass;
 use crate::scene::Scene;
@@ -68,6 +68,7 @@ impl Scene {
         requires passes { (1 ≤ passes) × (passes ≤ 64) }
         requires frames { (1 ≤ frames) × (frames ≤ most_frames) }
         ensures started { IfSome (S.told files.old) (λ all. HasStarted (layout_in all) result) }
+        ensures number { HasFaultNumber result }
         ensures told { IfOk result (λ started. started.scene.tileset.told ≡ S.told files.old) }
         ensures sizes { IfOk result (λ started. (started.scene.frames.tag.passes ≡ passes)
             × (started.scene.frames.tag.frames ≡ frames) × (started.scene.frames.note.granted ≡ [])) }
@@ -87,6 +88,7 @@ impl Scene {
 // Fetches `tileset.json` and reads the layout.
 fn fetch_layout<S: FileSource>(alloc: Global, files: &mut S) -> Result<Layout, StartFault>
     ensures layout { IfSome (S.told files.old) (λ all. HasLayout (layout_in all) result) }
+    ensures number { HasFaultNumber result }
     ensures failed { result ≡ Err StartFault.ReadFault → Rose (S.faults files.old) (S.faults files.new) }
     ensures sure { result ≢ Err StartFault.ReadFault → S.faults files.new ≡ S.faults files.old }
     ensures later { S.faults files.old ≤ S.faults files.new }
