@@ -1,5 +1,7 @@
 // The place of a worker.
 ghost use Rattle.std.specs.Prelude.{◌≡◌, [], false, None, Some, IfSome, IfNone};
+ghost use Rattle.std.specs.Borrow.{sem};
+ghost use Rattle.batch_run.specs.Lending.{LendsSource};
 
 use crate::viewing::Pass;
 use batch_blocks::Reply;
@@ -52,6 +54,14 @@ impl<S, P: Pass<W>, W> Desk<S, P, W> {
         ensures { result.now ≡ self.now.source }
     {
         &self.source
+    }
+
+    /// The source, for writing. All else of the desk stays as it is.
+    pub fn source_mut(&mut self) -> &mut S
+        ensures* writes_back { sem 𝓛 (LendsSource S.row P.row W.row self.entry result) }
+        ensures source { result.now ≡ self.old.source }
+    {
+        &mut self.source
     }
 
     /// Puts a pass in, and gives back the one that it replaces: None exactly where there was none.
