@@ -8,6 +8,7 @@ import sys
 if not 2 <= len(sys.argv) <= 3:
     sys.exit(__doc__)
 
+import batching
 import buffers
 import edges
 import examples
@@ -20,6 +21,7 @@ import walking
 walking.cases()
 making.cases()
 replaying.cases()
+batching.cases()
 edges.cases()
 buffers.cases()
 examples.cases()

@@ -14,16 +14,18 @@ A_FILE = tileset_a()["s/0/0/0.subtree"]
 
 
 @case
-def held_back(name, files, words, text, status=0):
+def held_back(name, files, words, text, status=0, given=b""):
     """Gives the text to a file, behind what is there, to a pipe that is read when the program has ended or as it goes, to a file
-    that takes half of it, and to a device that takes nothing."""
+    that takes half of it, and to a device that takes nothing. The bytes that are given are its standard input."""
     folder = tempfile.mkdtemp(prefix="view ")
     problems = []
     wanted = text.encode()
+    input_path = os.path.join(folder, "given")
 
     def end_of(stdout, limits=None):
-        done = subprocess.run([PROGRAM] + words, cwd=os.path.join(folder, "in"), stdin=subprocess.DEVNULL, stdout=stdout,
-                              stderr=subprocess.PIPE, timeout=120, preexec_fn=under(limits))
+        with open(input_path, "rb") as taken:
+            done = subprocess.run([PROGRAM] + words, cwd=os.path.join(folder, "in"), stdin=taken, stdout=stdout,
+                                  stderr=subprocess.PIPE, timeout=120, preexec_fn=under(limits))
         return done.returncode, done.stderr.decode()
 
     def look(where, ended, found, wanted, status):
@@ -34,6 +36,7 @@ def held_back(name, files, words, text, status=0):
     try:
         os.mkdir(os.path.join(folder, "in"))
         write_files(os.path.join(folder, "in"), files)
+        write_files(folder, {"given": given})
         path = os.path.join(folder, "out")
         for where, front in (("a file", b""), ("the end of a file", b"before\n")):
             with open(path, "wb") as out:
@@ -43,9 +46,9 @@ def held_back(name, files, words, text, status=0):
             with open(path, "rb") as out:
                 look(where, ended, out.read(), front + wanted, status)
         reader, writer = os.pipe()
-        with open(reader, "rb") as ours, open(writer, "wb") as theirs:
-            program = subprocess.Popen([PROGRAM] + words, cwd=os.path.join(folder, "in"), stdin=subprocess.DEVNULL,
-                                       stdout=theirs, stderr=subprocess.PIPE)
+        with open(reader, "rb") as ours, open(writer, "wb") as theirs, open(input_path, "rb") as taken:
+            program = subprocess.Popen([PROGRAM] + words, cwd=os.path.join(folder, "in"), stdin=taken, stdout=theirs,
+                                       stderr=subprocess.PIPE)
             theirs.close()
             if len(wanted) <= 65536:
                 program.wait(120)

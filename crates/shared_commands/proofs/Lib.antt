@@ -1,0 +1,6 @@
+mod Passes
+mod Firsts
+mod Given
+mod Ends
+mod Wishes
+mod Asking
