@@ -98,7 +98,8 @@ def line_end_cases():
                                 ("a_last_line_that_ends_by_cr", b"1 0,0 1,1\n0 0,0 0,0\r", A_WHOLE + A_ROOT),
                                 ("one_line_without_an_end", b"0 0,0 0,0", A_ROOT), ("one_byte", b"0", refused(1)),
                                 ("one_line_end", b"\n", refused(1)), ("one_cr", b"\r", refused(1)),
-                                ("a_last_cr", b"0 0,0 0,0\n\r", A_ROOT + refused(1)), ("empty_lines", b"\n\n\n0 0,0 0,0\n\n", refused(1) * 3 + A_ROOT + refused(1))):
+                                ("a_last_cr", b"0 0,0 0,0\n\r", A_ROOT + refused(1)),
+                                ("empty_lines", b"\n\n\n0 0,0 0,0\n\n", refused(1) * 3 + A_ROOT + refused(1))):
         batch("batch_of_" + name, tileset_a(), ["4", "64"], given, wanted)
     shell("batch_of_an_input_that_comes_in_pieces", tileset_a(),
           '{ printf "0 0"; sleep 0.1; printf ",0 0,0"; sleep 0.1; printf "\\n1 1,0 "; sleep 0.1; printf "0,0"; } | "$VIEW" batch 4 64',
@@ -106,7 +107,7 @@ def line_end_cases():
 
 
 def fault_cases():
-    """A block tells of a faulty file, of too many tiles or of a failed read, and the program ends well whatever it tells."""
+    """A block tells of a faulty file or of a failed read, and the program ends well whatever it tells; but not over a faulty layout."""
     whole, left = ("1 0,0 1,1", "1 0,0 0,0"), lines("0|0|0", "1|0|0", "end|complete|2")
     lower = lines("0|0|0", "1|0|1", "1|1|1", "end|complete|3")
     root = lines("0|0|0", "end|complete|1")
@@ -130,7 +131,6 @@ def fault_cases():
               message=f"view: layout fault {fault}\n")
     batch("batch_without_a_tileset_of_too_long_an_input", {}, ["4", "64"], b"\n" * (MOST_INPUT + 1), "", 3, message="view: layout fault 1\n")
     batch("batch_without_a_tileset_of_no_input", {}, ["4", "64"], b"", "", 3, message="view: layout fault 1\n")
-    cut_cases()
 
 
 @case
@@ -140,10 +140,6 @@ def cut_at_the_most(name):
     too_many = lines(*all_ones(2, 17, (0, 0), (0, 32767))[:65536], "end|too-many|65536")
     batch(name, tileset_b(9, 18), ["4", "64"], given_lines("17 0,0 0,32767", "0 0,0 0,0", "16 0,0 0,32767", "18 0,0 0,0", "17 0,0 0,32767"),
           too_many + lines("0|0|0", "end|complete|1") + complete + refused(3) + too_many)
-
-
-def cut_cases():
-    cut_at_the_most("batch_of_the_most_tiles")
 
 
 def path_block(level, x, y):
@@ -165,8 +161,8 @@ def round_cases():
 
 def limit_cases():
     ends, line = b"\n" * MOST_INPUT, b"0 0,0 0,0\n"
-    for workers in ("1", "4"):
-        batch(f"batch_of_the_most_line_ends_by_{workers}_workers", tileset_a(), [workers, "4"], ends, refused(1) * MOST_INPUT)
+    batch("batch_of_the_most_line_ends", tileset_a(), ["1", "4"], ends, refused(1) * MOST_INPUT)
+    batch("batch_of_many_line_ends_by_4_workers", tileset_a(), ["4", "4"], ends[:65536], refused(1) * 65536)
     batch("batch_of_one_line_end_too_many", tileset_a(), ["1", "4"], ends + b"\n", "", 8)
     batch("batch_of_the_longest_line", tileset_a(), ["4", "64"], b"1" * MOST_INPUT, refused(1))
     batch("batch_of_one_byte_too_many", tileset_a(), ["4", "64"], b"1" * (MOST_INPUT + 1), "", 8)
@@ -261,10 +257,10 @@ def in_box(tile, level, low, high):
 
 
 def near_box(chosen, axes, level):
-    """A box of a level, at random, whose sides are at most a quarter of it."""
+    """A box of a level, at random, whose sides are at most an eighth of it, and at least one tile."""
     side = 2 ** level
     low = tuple(chosen.randrange(side) for _ in range(axes))
-    return level, low, tuple(min(side - 1, c + chosen.randrange(max(1, side // 4))) for c in low)
+    return level, low, tuple(min(side - 1, c + chosen.randrange(max(1, side // 8))) for c in low)
 
 
 def line_of(box):
@@ -273,8 +269,8 @@ def line_of(box):
 
 def opening_cases():
     """Each file that a line needs is read once where the frames hold all of them, and no other."""
-    whole = made_scene("quadtree", 3, 2, 0, 10000, 5)
-    files = made_files(whole)
+    leaves = itertools.product(range(4), repeat=2)
+    files = made_files({**made_scene("quadtree", 3, 2, 0, 1, 0), "tiles": make.with_ancestors(2, leaves)})
     for words in (["4", "64"], ["1", "17"], ["64", "1024"]):
         opened("batch_of_eight_equal_lines_reads_each_file_once_by_" + "_".join(words), files, words, given_lines(*["2 0,0 3,3"] * 8), B_WHOLE * 8,
                dict.fromkeys(files, 1))
@@ -283,9 +279,9 @@ def opening_cases():
         opened(f"batch_of_{name}_reads_no_subtree", files, words, given, wanted, {"tileset.json": 1})
     opened("batch_of_too_long_an_input_reads_no_subtree", files, ["4", "64"], b"\n" * (MOST_INPUT + 1), "", {"tileset.json": 1}, 8)
     opened("batch_of_no_workers_reads_nothing", files, ["0", "64"], b"2 0,0 3,3\n", "", {}, 2)
-    scene = made_scene("quadtree", 6, 2, 1, 300, 3)
+    scene = made_scene("quadtree", 10, 2, 1, 200, 3)
     files, chosen = made_files(scene), random.Random(20224)
-    boxes = [near_box(chosen, 2, chosen.randrange(6)) for _ in range(150)]
+    boxes = [near_box(chosen, 2, chosen.randrange(10)) for _ in range(150)]
     needed = {make.filled(scene["template"], tile): 1 for tile in scene["tiles"]
               if tile[0] % scene["subtree"] == 0 and any(in_box(tile, *box) for box in boxes)}
     for words in (["1", "1024"], ["4", "1024"], ["64", "1024"]):
@@ -309,7 +305,8 @@ def in_made_octree(name):
         path = os.path.join(folder, "tileset.json")
         with open(path, encoding="utf-8") as file:
             text = file.read()
-        changed = text.replace('"geometricError":1', '"geometricError":70.71').replace("[0,0,0,1,0,0,0,1,0,0,0,1]", "[0.5,0.5,0.5,7.25,0,0,0,7.25,0,0,0,1e1]")
+        changed = text.replace('"geometricError":1', '"geometricError":70.71')
+        changed = changed.replace("[0,0,0,1,0,0,0,1,0,0,0,1]", "[0.5,0.5,0.5,7.25,0,0,0,7.25,0,0,0,1e1]")
         if changed.count("70.71") != 2 or "7.25" not in changed:
             problems.append("tileset.json has no such members")
         with open(path, "w", encoding="utf-8") as file:
@@ -330,12 +327,12 @@ def in_made_octree(name):
 
 @case
 def same_by_all(name, recipe, count):
-    """Many overlapping boxes over thousands of subtrees, some of them twice, with bad lines among them: the blocks are what `tiles` writes
-    for each line, by any number of workers and of frames."""
+    """Many overlapping boxes over thousands of subtrees, some of them twice and one that has a quarter of all, with bad lines among them:
+    the blocks are what `tiles` writes for each line, by any number of workers and of frames."""
     axes, levels = 2 if recipe[0] == "quadtree" else 3, recipe[1]
     chosen = random.Random(20225)
     boxes = [near_box(chosen, axes, chosen.randrange(levels)) for _ in range(count * 3 // 4)]
-    boxes += chosen.sample(boxes, count - len(boxes) - 1) + [(levels - 1, (0,) * axes, (2 ** (levels - 1) - 1,) * axes)]
+    boxes += chosen.sample(boxes, count - len(boxes) - 1) + [(levels - 1, (0,) * axes, (2 ** (levels - 2) - 1,) * axes)]
     chosen.shuffle(boxes)
     folder = tempfile.mkdtemp(prefix="view ")
     try:
@@ -373,6 +370,7 @@ def cases():
     refusal_cases()
     line_end_cases()
     fault_cases()
+    cut_at_the_most("batch_of_the_most_tiles")
     round_cases()
     limit_cases()
     device_cases()

@@ -3,6 +3,7 @@ use Rattle.std.proofs.Common.{◌≡◌, ℕ, zero, suc, ◌+◌, ◌<◌, ◌�
 use Rattle.std.specs.Prelude.{Option, None, slice_index_or}
 use Rattle.std.specs.List.{All}
 use Rattle.implicit_tiling.specs.Files.{Files}
+use Rattle.scene_ports.specs.Counts.{one_more}
 use Rattle.shared_commands.specs.Desks.{Place, files_of, IsFree, IsLeftFree, AreLeftFree, OnlyFirst}
 
 module _ {S : Type 0} where
@@ -17,6 +18,12 @@ module _ {S : Type 0} where
   used_less IsUsed IsLess [] new less only = absurd only
   used_less IsUsed IsLess (desk ∷ desks) [] less only = absurd only
   used_less IsUsed IsLess (desk ∷ desks) (next ∷ nexts) less only = (less desk.source next.source only.0, only.1, only.2)
+
+  -- of the fetch of `tileset.json`, what was told stays told, and no count of faults falls
+  pub asked_less : (told : S → Option Files) (faults fetches : S → ℕ) (desks new : List (Place S))
+      → OnlyFirst (λ before now. (fetches now ≡ one_more (fetches before)) × (told now ≡ told before) × (faults before ≤ faults now)) desks new
+      → OnlyFirst (λ before now. (told now ≡ told before) × (faults before ≤ faults now)) desks new
+  asked_less told faults fetches desks new only = used_less _ _ desks new (λ a b h. (h.1, h.2)) only
 
   pub first_files : (told : S → Option Files) (desks : List (Place S)) (d : Place S) → 1 ≤ length desks → files_of told desks ≡ told (slice_index_or desks 0 d).source
   first_files told [] d some = absurd (omega (arith, some))

@@ -158,7 +158,7 @@ fn answer_lines<R: Threads + Wait + Sync, S: FileSource + Send, O: Outlet>(
     ensures later { O.faults out.old ≤ O.faults out.new }
     ensures aside { O.inlet_aside out.new ≡ O.inlet_aside out.old }
 {
-    let Started { scene, passes } = started;
+    let Started { scene, passes, .. } = started;
     put_passes(passes, desks);
     let answered = batch(rt, alloc, &scene, desks, &NoGate, input, out);
     take_passes(desks);

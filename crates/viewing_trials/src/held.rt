@@ -41,7 +41,11 @@ impl Gate for HeldLine {
 #[test]
 fn a_line_is_answered_while_another_is_held(rt: HostRuntime) -> Result<(), Fail> {
     let mut first = source(rt.alloc(), None, &[])?;
-    let Ok(Started { scene, mut passes }) = Scene::start(rt.alloc(), &mut first, 2, 8) else {
+    let Ok(Started {
+        scene,
+        host: _,
+        mut passes,
+    }) = Scene::start(rt.alloc(), &mut first, 2, 8) else {
         return Err(Fail::new("the scene starts"));
     };
     let mut desks: Vec<Desk<Untold, ViewerPass, Walked>> = Vec::new(rt.alloc());

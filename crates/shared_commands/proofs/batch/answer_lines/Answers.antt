@@ -2,8 +2,7 @@ use Rattle.shared_commands.proofs.Given.{desks_ready, given_all, given_some, all
 use Rattle.shared_commands.proofs.batch.answer_lines.Goals as goal
 
 pub batch-answered-requires-clause-ready : goal.batch-answered-requires-clause-ready
-batch-answered-requires-clause-ready g c = ?
-
+batch-answered-requires-clause-ready g c κs within =
     desks_ready g.S.FileSource.told g.S.FileSource.faults c.args.started.scene c.args.started.passes.items c.args.desks.now c.put_passes.new.desks c.requires.passes.0 c.requires.passes.1 c.requires.free
     c.put_passes.ensures.count c.put_passes.ensures.passes
 
