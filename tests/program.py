@@ -14,7 +14,7 @@ TOP = os.path.dirname(os.path.dirname(os.path.abspath(__file__)))
 PROGRAM = os.path.join(TOP, "crates", "view", "out", "view")
 NOTE = PROGRAM + ".made-of"
 # What the gate's proofs took from nothing where they were last timed, and over how many crates.
-TIMED = "two hours on four processors that had as much other work, for 57 crates and their tests"
+TIMED = "87 minutes on four processors that had other work, for the whole gate over 60 crates"
 
 
 def sum_of(path):
