@@ -1,41 +1,19 @@
--- Passes stay those of a scene while its host hands out others.
+-- The passes that a host hands out.
 use Rattle.std.proofs.Common.{◌≡◌, ◌∙◌, ℕ, zero, suc, ◌+◌, ◌<◌, List, [], ◌∷◌, ◌++◌, length, refl, sym, ap, subst, arith}
 use Rattle.std.specs.List.{All, slice_index_or}
 use Rattle.std.proofs.lemmas.List.Elements.{All-append}
 use Rattle.shared_pool.specs.declared.note.Note.{Note}
 use Rattle.shared_pool.specs.Seen.{fresh, first_note}
-use Rattle.viewer_session.specs.Sessions.{SceneSeen, PassSeen, IsPassOf}
+use Rattle.viewer_session.specs.Sessions.{SceneSeen, PassSeen}
 use Rattle.viewer_session.specs.Starts.{IsNewPass}
-
-pass_stays : (s s' : SceneSeen) (pass : PassSeen) → s'.tileset ≡ s.tileset → s'.registry ≡ s.registry → s'.frames.table ≡ s.frames.table → s'.frames.tag ≡ s.frames.tag → IsPassOf s pass → IsPassOf s' pass
-pass_stays s s' pass tileset registry table tag is = record {
-  of_frames = is.of_frames ∙ sym table;
-  of_tag = is.of_tag ∙ sym tag;
-  idle = is.idle;
-  of_registry = is.of_registry ∙ sym registry;
-  of_scene = is.of_scene ∙ sym tileset;
-  nothing_out = is.nothing_out;
-}
-
-pub new_passes_stay : (s s' : SceneSeen) (passes : List PassSeen) → s'.tileset ≡ s.tileset → s'.registry ≡ s.registry → s'.frames.table ≡ s.frames.table → s'.frames.tag ≡ s.frames.tag
-    → All (IsNewPass s) passes → All (IsNewPass s') passes
-new_passes_stay s s' passes tileset registry table tag all = λ i d below.
-    let new = all i d below in record {
-      of_scene = pass_stays s s' _ tileset registry table tag new.of_scene;
-      nothing_walked = new.nothing_walked;
-      no_grants = new.no_grants;
-      no_busies = new.no_busies;
-    }
 
 all_one : (P : PassSeen → Type 0) (x : PassSeen) → P x → (k : ℕ) (d : PassSeen) → k < length (x ∷ []) → P (slice_index_or (x ∷ []) k d)
 all_one P x p zero d below = p
 all_one P x p (suc k) d below = absurd (omega (arith, below))
 
--- one pass more, of the scene as it was left
-pub pass_added : (s s' : SceneSeen) (passes : List PassSeen) (pass : PassSeen) → s.tileset ≡ s'.tileset → s.registry ≡ s'.registry → s.frames.table ≡ s'.frames.table → s.frames.tag ≡ s'.frames.tag
-    → All (IsNewPass s) passes → IsNewPass s' pass → All (IsNewPass s) (passes ++ pass ∷ [])
-pass_added s s' passes pass tileset registry table tag all new =
-    All-append (IsNewPass s) passes (pass ∷ []) all (new_passes_stay s' s (pass ∷ []) tileset registry table tag (all_one (IsNewPass s') pass new))
+-- one pass more of the scene
+pub pass_added : (s : SceneSeen) (passes : List PassSeen) (pass : PassSeen) → All (IsNewPass s) passes → IsNewPass s pass → All (IsNewPass s) (passes ++ pass ∷ [])
+pass_added s passes pass all new = All-append (IsNewPass s) passes (pass ∷ []) all (all_one (IsNewPass s) pass new)
 
 pub no_pass : (s : SceneSeen) (passes : List PassSeen) → passes ≡ [] → All (IsNewPass s) passes
 no_pass s passes none = subst (All (IsNewPass s)) (sym none) (λ k d below. absurd (omega (arith, below)))

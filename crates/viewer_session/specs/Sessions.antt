@@ -1,5 +1,5 @@
 -- What contracts see of a scene and of the passes of its viewers (this project's own).
-use Rattle.std.specs.Prelude.{ℕ, ◌≡◌, ◌≢◌, List, length, None, false}
+use Rattle.std.specs.Prelude.{ℕ, ◌≡◌, ◌≢◌, List, [], length, None, false}
 use Rattle.atomic_table.specs.Seated.{TableId}
 use Rattle.turn_lock.specs.Seats.{Seat}
 use Rattle.implicit_tiling.specs.Region.{Region, Plan}
@@ -13,9 +13,9 @@ use Rattle.tile_coords.specs.declared.walk_end.WalkEnd.TheVariants.{Partial}
 use Rattle.subtree_outcome.specs.declared.outcome.Outcome.{Outcome}
 use Rattle.shared_pool.specs.declared.shared.PoolTag.{PoolTag}
 use Rattle.shared_pool.specs.Fits.{IsIdle}
-use Rattle.shared_pool.specs.Seen.{HostSeen, PassSeen as PoolPassSeen}
+use Rattle.shared_pool.specs.Seen.{HostSeen, PassSeen as PoolPassSeen, first_note}
 use Rattle.scene_frames.specs.declared.rule.SceneTag.{SceneTag}
-use Rattle.scene_frames.specs.Held.{IsOfScene}
+use Rattle.scene_frames.specs.Held.{IsOfScene, no_scene}
 use Rattle.plan_registry.specs.Registries.{CursorSeen, Walks}
 use Rattle.walk_course.specs.declared.planned.WalkScene.{WalkScene}
 use Rattle.walk_course.specs.declared.tag.WalkTag.{WalkTag}
@@ -29,11 +29,23 @@ FramesHost = HostSeen SceneTag ℕ Outcome
 abbrev pub FramesPass : Type 0
 FramesPass = PoolPassSeen SceneTag ℕ Outcome
 
--- The files that its source told and its layout, the host of its frames, and the table of its registry of walks
+-- The files that its source told and its layout, the host of its frames as it was at the start, and the table of its
+-- registry of walks
 pub record SceneSeen : Type 0 where
   pub tileset : WalkScene
   pub frames : FramesHost
   pub registry : TableId
+
+-- any host, for what states none
+abbrev pub no_host : FramesHost
+no_host = record {
+  table = record { words = 0; slots = 0; views_name = 0; atom = 0; block = 0; offset = 0; slot_names = [] };
+  tag = record { frames = 0; passes = 0; own = no_scene };
+  next = 0;
+  note = first_note 0;
+  last = None;
+  gave = None;
+}
 
 -- The pass to the frames, the seat of the registry, and what was walked: the plans that were attached to or answered
 -- whole, in their order
@@ -49,6 +61,11 @@ tag_in scene plan = tag_of scene.tileset plan
 -- its walks and its frames are of the same files and layout
 abbrev pub IsScene : WalkScene → Layout → PoolTag SceneTag → Type 0
 IsScene tileset layout frames = (tileset.layout ≡ layout) × IsOfScene tileset.layout tileset.told frames
+
+-- the host is that of the scene's frames
+pub record IsHostOf (scene : SceneSeen) (host : FramesHost) : Type 0 where
+  pub of_table : host.table ≡ scene.frames.table
+  pub of_tag : host.tag ≡ scene.frames.tag
 
 -- the pass is one of the scene, and between two calls: it pins and loads nothing, and doesn't have the registry
 pub record IsPassOf (scene : SceneSeen) (pass : PassSeen) : Type 0 where

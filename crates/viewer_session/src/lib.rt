@@ -7,6 +7,7 @@
 
 mod advance;
 mod answer;
+mod host;
 mod next;
 mod pass;
 mod scene;
@@ -15,6 +16,7 @@ mod walks;
 
 pub use advance::Advance;
 pub use answer::Whole;
+pub use host::SceneHost;
 pub use pass::{ViewerPass, Walked};
 pub use scene::{Cursor, Scene};
 pub use start::{StartFault, Started};

@@ -1,8 +1,6 @@
 // A scene, and what a viewer asks of it.
 ghost use Rattle.std.specs.Prelude.{◌≡◌, ◌≢◌, ℕ, ◌+◌, ◌-◌, ◌<◌, ◌≤◌, [], ◌∷◌, ◌++◌, length, min, slice_index, IfOk};
 ghost use Rattle.std.specs.Prelude.{IfErr, IfSome, nat_eq};
-ghost use Rattle.shared_pool.specs.Books.{HasFewKeys, IsFetchedOnce, all_entries};
-ghost use Rattle.shared_pool.specs.Fits.{added};
 ghost use Rattle.published_prefix.specs.Heads.{NoFurther};
 ghost use Rattle.published_prefix.specs.Seats.{looked};
 ghost use Rattle.plan_registry.specs.Registries.{HasAttached, HasKept, cursor_on};
@@ -13,13 +11,12 @@ ghost use Rattle.walk_course.specs.Scenes.{tag_of};
 ghost use Rattle.viewer_session.specs.Sessions.{IsPassOf, IsCursorOf, tag_in, IsWholeAt};
 ghost use Rattle.viewer_session.specs.declared.pass.Walked.TheVariants.{Attached};
 
+use crate::host::SceneHost;
 use crate::pass::{ViewerPass, Walked};
 use crate::walks::SceneWalks;
-use contract_tokens::Log;
+use contract_tokens::{Log, Told};
 use plan_registry::Registry;
 use published_prefix::Page;
-use scene_frames::Outcomes;
-use shared_pool::Host;
 use std::alloc::AllocError;
 use std::marker::Model;
 use std::sync::Wait;
@@ -30,13 +27,13 @@ use walk_course::PlanWalk;
 /// A place on the walk of a plan. It stays good for as long as it lives, and may be dropped.
 pub type Cursor = plan_registry::Cursor<PlanWalk>;
 
-/// A tileset that viewers look at. Contracts see its layout, the files that its source told, the host of its frames and
-/// the name of its registry.
+/// A tileset that viewers look at, each in a thread of its own. Contracts see its layout, the files that its source
+/// told, the host of its frames as it was at the start, and the name of its registry.
 #[derive(Drop)]
 pub struct Scene {
     pub(crate) walks: SceneWalks,
     pub(crate) registry: Registry<PlanWalk>,
-    pub(crate) host: Host<Outcomes>,
+    pub(crate) frames: Told<SceneHost>,
 }
 
 impl Model for Scene {
@@ -44,9 +41,9 @@ impl Model for Scene {
 
     ghost Value = { SceneSeen };
 
-    ghost view = { λ s. record { tileset = s.walks.scene.value; frames = s.host; registry = s.registry } };
+    ghost view = { λ s. record { tileset = s.walks.scene.value; frames = s.frames.value; registry = s.registry } };
 
-    ghost invariant = { λ s. IsScene s.walks.scene.value s.walks.layout s.host.tag };
+    ghost invariant = { λ s. IsScene s.walks.scene.value s.walks.layout s.frames.value.tag };
 }
 
 impl Scene {
@@ -124,29 +121,5 @@ impl Scene {
         // The scheme is read so that the limits of the layout are known.
         let _scheme = self.walks.layout.scheme;
         cursor.page(from, out)
-    }
-
-    /// Takes a pass back, with what was granted to it.
-    pub fn rejoin(&mut self, pass: ViewerPass)
-        requires pass { IsPassOf self.old pass }
-        ensures rejoined { self.new ≡ record self.old {
-          frames = record self.old.frames { note = added self.old.frames.note pass.frames.note };
-        } }
-        ensures back { length self.new.frames.note.granted ≡ length self.old.frames.note.granted + 1 }
-    {
-        self.host.rejoin(pass.frames);
-    }
-
-    /// Takes the frames once, with all passes back. Where no more roots were granted than there are frames, each was
-    /// granted at most once more than its loadings failed. No memory is taken.
-    pub fn audit(&mut self, rt: &impl Wait)
-        requires all { length self.old.frames.note.granted ≡ self.old.frames.tag.passes }
-        ensures same { self.new ≡ record self.old {
-          frames = record self.old.frames { last = self.new.frames.last; gave = self.new.frames.gave };
-        } }
-        ensures fetched { HasFewKeys nat_eq self.old.frames.tag.frames (all_entries self.old.frames.note.granted)
-            → IsFetchedOnce nat_eq (all_entries self.old.frames.note.granted) }
-    {
-        self.host.audit(rt);
     }
 }

@@ -7,16 +7,16 @@ ghost use Rattle.scene_ports.specs.Counts.{Rose, one_more};
 ghost use Rattle.turn_lock.specs.Seats.{fresh};
 ghost use Rattle.shared_pool.specs.Seen.{first_note};
 ghost use Rattle.scene_frames.specs.Held.{IsOfScene};
+ghost use Rattle.viewer_session.specs.Sessions.{IsHostOf};
 ghost use Rattle.viewer_session.specs.Starts.{HasStarted, HasLayout, HasFaultNumber, IsNewPass};
 
+use crate::host::SceneHost;
 use crate::pass::ViewerPass;
 use crate::scene::Scene;
 use crate::walks::SceneWalks;
 use contract_tokens::{Log, Tells, Told};
 use plan_registry::{Registry, RegistrySeat};
-use scene_frames::Outcomes;
 use scene_ports::{Fetch, FileSource, MOST_FILE_BYTES};
-use shared_pool::Host;
 use std::alloc::{AllocError, Global};
 use std::marker::Brand;
 use tileset_json::{Layout, LayoutFault};
@@ -27,10 +27,11 @@ const MISSING: u64 = 1;
 
 const TOO_LONG: u64 = 2;
 
-/// A scene, and as many passes as were wanted.
+/// A scene, the host of its frames, and as many passes as were wanted.
 #[derive(Drop)]
 pub struct Started {
     pub scene: Scene,
+    pub host: SceneHost,
     pub passes: Vec<ViewerPass>,
 }
 
@@ -70,8 +71,9 @@ impl Scene {
         ensures started { IfSome (S.told files.old) (λ all. HasStarted (layout_in all) result) }
         ensures number { HasFaultNumber result }
         ensures told { IfOk result (λ started. started.scene.tileset.told ≡ S.told files.old) }
-        ensures sizes { IfOk result (λ started. (started.scene.frames.tag.passes ≡ passes)
-            × (started.scene.frames.tag.frames ≡ frames) × (started.scene.frames.note.granted ≡ [])) }
+        ensures sizes { IfOk result (λ started. (started.host.tag.passes ≡ passes)
+            × (started.host.tag.frames ≡ frames) × (started.host.note.granted ≡ [])) }
+        ensures host { IfOk result (λ started. IsHostOf started.scene started.host) }
         ensures passes { IfOk result (λ started. (length started.passes.items ≡ passes)
             × All (IsNewPass started.scene) started.passes.items) }
         ensures failed { result ≡ Err StartFault.ReadFault → Rose (S.faults files.old) (S.faults files.new) }
@@ -122,29 +124,35 @@ fn open<S: FileSource>(
     requires frames { (1 ≤ frames) × (frames ≤ most_frames) }
     ensures layout { IfOk result (λ started. started.scene.tileset.layout ≡ layout) }
     ensures told { IfOk result (λ started. started.scene.tileset.told ≡ S.told files.now) }
-    ensures sizes { IfOk result (λ started. (started.scene.frames.tag.passes ≡ passes)
-        × (started.scene.frames.tag.frames ≡ frames) × (started.scene.frames.note.granted ≡ [])) }
+    ensures sizes { IfOk result (λ started. (started.host.tag.passes ≡ passes)
+        × (started.host.tag.frames ≡ frames) × (started.host.note.granted ≡ [])) }
+    ensures host { IfOk result (λ started. IsHostOf started.scene started.host) }
     ensures passes { IfOk result (λ started. (length started.passes.items ≡ passes)
         × All (IsNewPass started.scene) started.passes.items) }
 {
-    let host = scene_frames::start(alloc, files, &layout, passes, frames)?;
-    let (scene, mut seat) = opened::<S, Brand>(alloc, files, layout, host)?;
-    hand_out(alloc, scene, &mut seat, passes)
+    let host = SceneHost {
+        frames: scene_frames::start(alloc, files, &layout, passes, frames)?,
+    };
+    let (scene, mut seat) = opened::<S, Brand, Brand>(alloc, files, layout, &host)?;
+    hand_out(alloc, scene, host, &mut seat, passes)
 }
 
-// `J` tells what the walks have in common.
-fn opened<S: FileSource, J: Tells<WalkScene>>(
+// `J` tells what the walks have in common, and `H` the host of the frames.
+fn opened<S: FileSource, J: Tells<WalkScene>, H: Tells<SceneHost>>(
     alloc: Global,
     files: &S,
     layout: Layout,
-    host: Host<Outcomes>,
+    host: &SceneHost,
 ) -> Result<(Scene, RegistrySeat<PlanWalk>), AllocError>
     requires told { (J.told.told ≡ S.told files.now) × (J.told.layout ≡ layout) }
-    requires host { IsOfScene layout (S.told files.now) host.tag }
-    ensures layout { IfOk result (λ r. (r.0.tileset.layout ≡ layout) × (r.0.tileset.told ≡ S.told files.now) × (r.0.frames ≡ host)) }
+    requires host { H.told ≡ host.now }
+    requires frames { IsOfScene layout (S.told files.now) host.now.tag }
+    ensures layout { IfOk result (λ r. (r.0.tileset.layout ≡ layout) × (r.0.tileset.told ≡ S.told files.now)
+        × (r.0.frames ≡ host.now)) }
     ensures seat { IfOk result (λ r. r.1 ≡ fresh r.0.registry r.0.tileset tt) }
 {
     let _ = files;
+    let _ = host;
     let (registry, seat) = Registry::<PlanWalk>::new::<J>(alloc)?;
     let walks = SceneWalks {
         alloc,
@@ -154,46 +162,51 @@ fn opened<S: FileSource, J: Tells<WalkScene>>(
     let scene = Scene {
         walks,
         registry,
-        host,
+        frames: Told::of::<H>(),
     };
     Ok((scene, seat))
 }
 
 // The scene with all its passes.
-#[tactic(auto, using(crate::proofs::Passes::pass_added, crate::proofs::Passes::new_passes_stay))]
+#[tactic(auto, using(crate::proofs::Passes::pass_added))]
 fn hand_out(
     alloc: Global,
-    mut scene: Scene,
+    scene: Scene,
+    mut host: SceneHost,
     seat: &mut RegistrySeat<PlanWalk>,
     count: usize,
 ) -> Result<Started, AllocError>
     requires seat { seat.old ≡ fresh scene.registry scene.tileset tt }
-    requires all { (scene.frames.next ≡ 0) × (scene.frames.note ≡ first_note count) × (scene.frames.tag.passes ≡ count) }
-    ensures same { IfOk result (λ started. (started.scene.tileset ≡ scene.tileset)
-        × (started.scene.frames.tag ≡ scene.frames.tag) × (started.scene.frames.note.granted ≡ [])) }
+    requires own { IsHostOf scene host }
+    requires all { (host.next ≡ 0) × (host.note ≡ first_note count) × (host.tag.passes ≡ count) }
+    ensures scene { IfOk result (λ started. started.scene ≡ scene) }
+    ensures host { IfOk result (λ started. IsHostOf scene started.host × (started.host.note.granted ≡ [])) }
     ensures passes { IfOk result (λ started. (length started.passes.items ≡ count)
-        × All (IsNewPass started.scene) started.passes.items) }
+        × All (IsNewPass scene) started.passes.items) }
 {
     let mut passes = Vec::with_capacity(alloc, count)?;
     for _ in 0..count {
-        let pass = next_pass(&mut scene, seat);
+        let pass = next_pass(&scene, &mut host, seat);
         passes.push(pass)?;
     }
-    Ok(Started { scene, passes })
+    Ok(Started {
+        scene,
+        host,
+        passes,
+    })
 }
 
 // The pass of the next number.
-fn next_pass(scene: &mut Scene, seat: &mut RegistrySeat<PlanWalk>) -> ViewerPass
-    requires seat { seat.old ≡ fresh scene.old.registry scene.old.tileset tt }
-    requires some { scene.old.frames.next < scene.old.frames.tag.passes }
-    ensures pass { IsNewPass scene.old result }
+fn next_pass(scene: &Scene, host: &mut SceneHost, seat: &mut RegistrySeat<PlanWalk>) -> ViewerPass
+    requires seat { seat.old ≡ fresh scene.now.registry scene.now.tileset tt }
+    requires own { IsHostOf scene.now host.old }
+    requires some { host.old.next < host.old.tag.passes }
+    ensures pass { IsNewPass scene.now result }
     ensures seat { seat.new ≡ seat.old }
-    ensures left { scene.new ≡ record scene.old {
-      frames = record scene.old.frames { next = scene.old.frames.next + 1; note = scene.new.frames.note };
-    } }
-    ensures numbers { length scene.old.frames.note.granted ≡ length scene.new.frames.note.granted + 1 }
+    ensures left { host.new ≡ record host.old { next = host.old.next + 1; note = host.new.note } }
+    ensures numbers { length host.old.note.granted ≡ length host.new.note.granted + 1 }
 {
-    let Some(frames) = scene.host.pass() else {
+    let Some(frames) = host.frames.pass() else {
         unreachable!()
     };
     ViewerPass {
