@@ -8,22 +8,28 @@ import sys
 if not 2 <= len(sys.argv) <= 3:
     sys.exit(__doc__)
 
+import batching
 import buffers
 import edges
 import examples
 import extremes
 import harness
 import making
+import many
 import replaying
+import serving
 import walking
 
 walking.cases()
 making.cases()
 replaying.cases()
+batching.cases()
 edges.cases()
 buffers.cases()
 examples.cases()
 extremes.cases()
+serving.cases()
+many.cases()
 passed, failed = harness.counts["passed"], harness.counts["failed"]
 print(f"black box: {passed} passed, {failed} failed" + (f", of the cases with {harness.WORD!r}" if harness.WORD else ""))
 sys.exit(1 if failed or not passed else 0)

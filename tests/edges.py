@@ -14,16 +14,18 @@ A_FILE = tileset_a()["s/0/0/0.subtree"]
 
 
 @case
-def held_back(name, files, words, text, status=0):
+def held_back(name, files, words, text, status=0, given=b""):
     """Gives the text to a file, behind what is there, to a pipe that is read when the program has ended or as it goes, to a file
-    that takes half of it, and to a device that takes nothing."""
+    that takes half of it, and to a device that takes nothing. The bytes that are given are its standard input."""
     folder = tempfile.mkdtemp(prefix="view ")
     problems = []
     wanted = text.encode()
+    input_path = os.path.join(folder, "given")
 
     def end_of(stdout, limits=None):
-        done = subprocess.run([PROGRAM] + words, cwd=os.path.join(folder, "in"), stdin=subprocess.DEVNULL, stdout=stdout,
-                              stderr=subprocess.PIPE, timeout=120, preexec_fn=under(limits))
+        with open(input_path, "rb") as taken:
+            done = subprocess.run([PROGRAM] + words, cwd=os.path.join(folder, "in"), stdin=taken, stdout=stdout,
+                                  stderr=subprocess.PIPE, timeout=120, preexec_fn=under(limits))
         return done.returncode, done.stderr.decode()
 
     def look(where, ended, found, wanted, status):
@@ -34,6 +36,7 @@ def held_back(name, files, words, text, status=0):
     try:
         os.mkdir(os.path.join(folder, "in"))
         write_files(os.path.join(folder, "in"), files)
+        write_files(folder, {"given": given})
         path = os.path.join(folder, "out")
         for where, front in (("a file", b""), ("the end of a file", b"before\n")):
             with open(path, "wb") as out:
@@ -43,9 +46,9 @@ def held_back(name, files, words, text, status=0):
             with open(path, "rb") as out:
                 look(where, ended, out.read(), front + wanted, status)
         reader, writer = os.pipe()
-        with open(reader, "rb") as ours, open(writer, "wb") as theirs:
-            program = subprocess.Popen([PROGRAM] + words, cwd=os.path.join(folder, "in"), stdin=subprocess.DEVNULL,
-                                       stdout=theirs, stderr=subprocess.PIPE)
+        with open(reader, "rb") as ours, open(writer, "wb") as theirs, open(input_path, "rb") as taken:
+            program = subprocess.Popen([PROGRAM] + words, cwd=os.path.join(folder, "in"), stdin=taken, stdout=theirs,
+                                       stderr=subprocess.PIPE)
             theirs.close()
             if len(wanted) <= 65536:
                 program.wait(120)
@@ -82,8 +85,9 @@ def output_cases():
 
 
 @case
-def in_folder(name, files, words, wanted, status=0, closed=(), user=None):
-    """Runs the program in the folder `in` of these files, of which the closed ones may not be read; as this user, if one is given."""
+def in_folder(name, files, words, wanted, status=0, closed=(), user=None, given=b""):
+    """Runs the program in the folder `in` of these files, of which the closed ones may not be read; as this user, if one is given.
+    The bytes that are given are its standard input."""
     folder = tempfile.mkdtemp(prefix="view ")
     try:
         write_files(folder, files)
@@ -96,8 +100,8 @@ def in_folder(name, files, words, wanted, status=0, closed=(), user=None):
             os.chmod(program, 0o755)
         for path in closed:
             os.chmod(os.path.join(folder, path), 0)
-        done = subprocess.run([program] + words, cwd=os.path.join(folder, "in"), stdin=subprocess.DEVNULL, capture_output=True,
-                              timeout=120, **({} if user is None else {"user": user, "group": user, "extra_groups": []}))
+        done = subprocess.run([program] + words, cwd=os.path.join(folder, "in"), input=given, capture_output=True, timeout=120,
+                              **({} if user is None else {"user": user, "group": user, "extra_groups": []}))
         found = done.returncode, done.stdout.decode(), done.stderr.decode()
         report(name, [] if found == (status, wanted, MESSAGES[status]) else [f"{found}, not {(status, wanted)}"])
     finally:
@@ -139,6 +143,7 @@ def name_cases():
 def refusing_cases():
     """What the system refuses to read is a read fault, and never a missing file."""
     root, file = ["tiles", "0", "0,0", "0,0"], "in/s/0/0/0.subtree"
+    batch, line = ["batch", "4", "64"], b"0 0,0 0,0\n"
     whole = {f"in/{name}": data for name, data in tileset_a().items()}
     long = "a" * 256
     for name, template, files in (("a_folder_in_a_file_s_place", NAME, {file + "/x": b""}),
@@ -146,6 +151,7 @@ def refusing_cases():
                                   ("a_name_that_is_too_long", long, {}), ("a_part_that_is_too_long", f"a/{long}/x", {"in/a/x": b""})):
         for words in (root, ["check"]):
             in_folder(f"{words[0]}_over_{name}", by_template(template, files), words, "", 4)
+        in_folder(f"batch_over_{name}", by_template(template, files), batch, lines("read-fault"), given=line)
     # who may read everything reads it, so this is tried as another user
     user = 65534 if os.geteuid() == 0 else None
     ways = {"a_file": (file,), "a_folder": ("in/s/0",), "tileset_json": ("in/tileset.json",)}
@@ -155,6 +161,8 @@ def refusing_cases():
     for name, closed in ways.items():
         for words in (root, ["check"]):
             in_folder(f"{words[0]}_over_{name}_that_may_not_be_read", whole, words, "", 4, closed, user)
+        told = ("", 4) if name == "tileset_json" else (lines("read-fault"), 0)
+        in_folder(f"batch_over_{name}_that_may_not_be_read", whole, batch, *told, closed, user, line)
     in_folder("tiles_over_files_that_may_be_read", whole, root, A_ROOT, 0, (), user)
     if user is not None:
         in_folder("make_in_a_folder_of_another_user", {"in/x": b""}, ["make", *WORKED], "", 5, (), user)

@@ -52,7 +52,10 @@ def without_toolchain(name, folder):
 
 
 def document_cases():
-    named = {"commands_of_" + re.sub(r"\W", "_", document): document for document in blocks.documents()}
+    # A document that shows another program is passed over where that one isn't installed.
+    needed = {os.path.join("examples", "many", "README.md"): "nginx"}
+    named = {"commands_of_" + re.sub(r"\W", "_", document): document for document in blocks.documents()
+             if document not in needed or shutil.which(needed[document])}
     others = {"installed_and_uninstalled": installed, "demo_without_the_toolchain": without_toolchain}
     if not any(map(is_chosen, [*named, *others])):
         return

@@ -77,13 +77,15 @@ def under(limits):
 
 
 @case
-def run(name, files, words, wanted, status=0, message=None, stdout=None, limits=None):
-    """Runs the program over these files; `wanted` is its whole standard output."""
+def run(name, files, words, wanted, status=0, message=None, stdout=None, limits=None, given=None, stdin=subprocess.DEVNULL):
+    """Runs the program over these files; `wanted` is its whole standard output. Its standard input has the bytes that are given,
+    or is `stdin`."""
     folder = tempfile.mkdtemp(prefix="view ")
     try:
         write_files(folder, files)
-        done = subprocess.run([PROGRAM] + words, cwd=folder, stdin=subprocess.DEVNULL, stderr=subprocess.PIPE,
-                              stdout=stdout if stdout is not None else subprocess.PIPE, timeout=120, preexec_fn=under(limits))
+        taken = {"stdin": stdin} if given is None else {"input": given}
+        done = subprocess.run([PROGRAM] + words, cwd=folder, stderr=subprocess.PIPE, timeout=120, preexec_fn=under(limits),
+                              stdout=stdout if stdout is not None else subprocess.PIPE, **taken)
         problems = []
         if done.returncode != status:
             problems.append(f"status {done.returncode}, not {status}")
@@ -96,6 +98,11 @@ def run(name, files, words, wanted, status=0, message=None, stdout=None, limits=
         report(name, problems)
     finally:
         shutil.rmtree(folder)
+
+
+def feed(name, files, words, given, wanted, status=0, **others):
+    """Runs the program over these files, on these bytes of standard input, or on `stdin` where they are None."""
+    run(name, files, words, wanted, status, given=given, **others)
 
 
 @case

@@ -2,11 +2,8 @@
 replies are computed from the set of a tileset's tiles by the rules of the script alone."""
 import os
 import random
-import shutil
-import subprocess
-import tempfile
 
-from harness import MESSAGES, PROGRAM, case, lines, report, shell, write_files
+from harness import feed, lines, shell
 from tilesets import made_files, make, tileset_a, tileset_b
 from walking import random_box, random_scene
 
@@ -28,20 +25,9 @@ BAD = ("", " ", "jump", "claim", "claim ", "claim  0", " claim 0", "claim 0 ", "
        "page 0", "page 0 ", "page 0 01", "page 0 1 2", "page 0 65537", "page 0 4294967296", "load 0 x", "claim 0\r")
 
 
-@case
-def replay(name, files, words, script, wanted, status=0, stdin=None, stdout=None, message=None):
-    """Runs the program over these files, on these bytes of standard input."""
-    folder = tempfile.mkdtemp(prefix="view ")
-    try:
-        write_files(folder, files)
-        given = {"input": script} if stdin is None else {"stdin": stdin}
-        done = subprocess.run([PROGRAM, "replay"] + words, cwd=folder, stderr=subprocess.PIPE, timeout=120,
-                              stdout=subprocess.PIPE if stdout is None else stdout, **given)
-        seen = (done.returncode, (done.stdout or b"").decode(), done.stderr.decode())
-        due = (status, wanted, MESSAGES[status] if message is None else message)
-        report(name, [] if seen == due else [f"{seen[0]}, {seen[1][:300]!r}, {seen[2]!r}, not {due[0]}, {due[1][:300]!r}, {due[2]!r}"])
-    finally:
-        shutil.rmtree(folder)
+def replay(name, files, words, script, wanted, status=0, **others):
+    """Runs `replay` over these files, on this script."""
+    feed(name, files, ["replay"] + words, script, wanted, status, **others)
 
 
 def worked_cases():

@@ -74,25 +74,26 @@ def refusal_cases():
     run("a_box_out_of_the_level", tileset_a(), ["tiles", "1", "0,0", "2,0"], lines("refused|5"), 2)
 
 
-def layout_cases():
-    one = ["tiles", "1", "0,0", "1,1"]
+# Faulty layouts: a name, tileset.json or None where there is none, and the number of its first fault.
+LAYOUTS = (
+    ("no_tileset", None, 1),
+    ("a_tileset_that_is_too_long", b" " * 16777217, 2),
+    ("a_tileset_of_one_brace", b"{", 3),
+    ("a_tileset_that_is_a_list", b"[]", 4),
+    ("no_implicit_tiling", b'{"root":{}}', 5),
+    ("a_scheme_in_small_letters", tileset("quadtree", 2, 2, NAME), 6),
+    ("no_subtree_levels", tileset("QUADTREE", 0, 2, NAME), 7),
+    ("too_many_levels", tileset("QUADTREE", 2, 33, NAME), 8),
+    ("too_many_levels_of_an_octree", tileset("OCTREE", 2, 22, NAME), 8),
+    ("a_template_with_a_line_feed", tileset("QUADTREE", 2, 2, "a\nb"), 9),
+    ("both_contents", tileset("QUADTREE", 2, 2, NAME, contents=["a"], content="b"), 10),
+    ("a_content_without_its_uri", tileset("QUADTREE", 2, 2, NAME).replace(b'"implicitTiling"', b'"content":{},"implicitTiling"'), 11),
+    ("seventeen_contents", tileset("QUADTREE", 2, 2, NAME, contents=[f"a{c}" for c in range(17)]), 12))
 
-    def bad(name, data, fault):
-        files = {} if data is None else {"tileset.json": data}
-        run(name, files, one, "", 3, f"view: layout fault {fault}\n")
-    bad("no_tileset", None, 1)
-    bad("a_tileset_that_is_too_long", b" " * 16777217, 2)
-    bad("a_tileset_of_one_brace", b"{", 3)
-    bad("a_tileset_that_is_a_list", b"[]", 4)
-    bad("no_implicit_tiling", b'{"root":{}}', 5)
-    bad("a_scheme_in_small_letters", tileset("quadtree", 2, 2, NAME), 6)
-    bad("no_subtree_levels", tileset("QUADTREE", 0, 2, NAME), 7)
-    bad("too_many_levels", tileset("QUADTREE", 2, 33, NAME), 8)
-    bad("too_many_levels_of_an_octree", tileset("OCTREE", 2, 22, NAME), 8)
-    bad("a_template_with_a_line_feed", tileset("QUADTREE", 2, 2, "a\nb"), 9)
-    bad("both_contents", tileset("QUADTREE", 2, 2, NAME, contents=["a"], content="b"), 10)
-    bad("a_content_without_its_uri", tileset("QUADTREE", 2, 2, NAME).replace(b'"implicitTiling"', b'"content":{},"implicitTiling"'), 11)
-    bad("seventeen_contents", tileset("QUADTREE", 2, 2, NAME, contents=[f"a{c}" for c in range(17)]), 12)
+
+def layout_cases():
+    for name, data, fault in LAYOUTS:
+        run(name, {} if data is None else {"tileset.json": data}, ["tiles", "1", "0,0", "1,1"], "", 3, f"view: layout fault {fault}\n")
 
 
 def device_cases():

@@ -1,7 +1,12 @@
-//! What the plain programs share: the tree of tiles, bits, the files of a tileset, walks over them, and tilesets that are made.
+//! What the plain programs share: the tree of tiles, bits, the files of a tileset, walks over them, tilesets that
+//! are made, and the commands that read an input.
+pub mod batch;
 pub mod bits;
 pub mod make;
 pub mod morton;
+pub mod replay;
+pub mod request;
+pub mod steps;
 pub mod subtree;
 pub mod tileset;
 pub mod tree;

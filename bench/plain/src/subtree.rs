@@ -32,6 +32,9 @@ pub struct Subtree {
     pub child: Bits,
 }
 
+/// What the file of a subtree holds: the subtree, or the number of its first fault.
+pub type Outcome = Result<Subtree, u64>;
+
 fn u64_at(bytes: &[u8], at: usize) -> u64 {
     u64::from_le_bytes(*bytes[at..].first_chunk().unwrap())
 }
@@ -223,7 +226,7 @@ fn has_orphan(scheme: Scheme, tiles: &Bits, nodes: u64) -> bool {
 pub type Fetching<'f> = dyn Fn(&str, u64) -> io::Result<Result<Vec<u8>, u64>> + 'f;
 
 /// The bits of the subtree whose root has this level.
-pub fn decode(layout: &Layout, root_level: u32, file: &[u8], fetch: &Fetching) -> io::Result<Result<Subtree, u64>> {
+pub fn decode(layout: &Layout, root_level: u32, file: &[u8], fetch: &Fetching) -> io::Result<Outcome> {
     let (mut held, used) = match record_of(layout, file) {
         Ok(record) => record,
         Err(fault) => return Ok(Err(fault)),
@@ -260,7 +263,7 @@ fn record_of<'f>(layout: &Layout, file: &'f [u8]) -> Result<(Held<'f>, Used), u6
     Ok((Held { buffers, views, binary, outer }, used))
 }
 
-fn bits_of(layout: &Layout, root_level: u32, held: &Held, used: &Used) -> Result<Subtree, u64> {
+fn bits_of(layout: &Layout, root_level: u32, held: &Held, used: &Used) -> Outcome {
     let mut bits: Vec<Bits> = used.iter().map(|used| held.bits(*used)).collect();
     if !used.iter().zip(&bits).all(|(used, bits)| is_counted(*used, bits)) {
         return Err(16);

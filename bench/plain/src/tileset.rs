@@ -1,6 +1,7 @@
 //! tileset.json of a tileset without faults.
 use crate::tree::Scheme;
 use serde_json::Value;
+use std::borrow::Cow;
 
 pub struct Layout {
     pub scheme: Scheme,
@@ -72,4 +73,20 @@ impl Template {
             }
         }
     }
+}
+
+/// The path of a file that a URI names: each `%` and two hexadecimal digits stand for a byte.
+pub fn path_of(uri: &str) -> Cow<'_, str> {
+    if !uri.contains('%') {
+        return uri.into();
+    }
+    let mut bytes = Vec::with_capacity(uri.len());
+    let mut rest = uri.as_bytes();
+    while let Some((&first, behind)) = rest.split_first() {
+        let digits = behind.get(..2).and_then(|digits| std::str::from_utf8(digits).ok());
+        let escaped = digits.filter(|_| first == b'%').and_then(|digits| u8::from_str_radix(digits, 16).ok());
+        bytes.push(escaped.unwrap_or(first));
+        rest = if escaped.is_some() { &behind[2..] } else { behind };
+    }
+    String::from_utf8_lossy(&bytes).into_owned().into()
 }

@@ -45,6 +45,7 @@ impl Scheme {
 }
 
 /// A box of tile coordinates at a level, both corners inside.
+#[derive(Clone, Copy, PartialEq, Eq, Hash)]
 pub struct Region {
     pub level: u32,
     pub lo: [u32; 3],

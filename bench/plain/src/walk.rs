@@ -1,17 +1,19 @@
 //! The walks over a tileset whose `tileset.json` has no fault: `tiles` and `check`. Each subtree file is read once, but by
 //! `tiles` over a few frames.
-use crate::subtree::{decode, Subtree};
-use crate::tileset::{Layout, Template};
+use crate::steps::Steps;
+use crate::subtree::{decode, Outcome, Subtree};
+use crate::tileset::{path_of, Layout, Template};
 use crate::tree::{Region, Scheme};
 use std::collections::HashMap;
-use std::io::{ErrorKind, Write};
+use std::fs::File;
+use std::io::{self, ErrorKind, Read, Write};
 use std::ops::Range;
-use std::{fs, io};
 
-const MOST_TILES: usize = 65536;
+pub const MOST_TILES: usize = 65536;
 const MOST_ROOTS: usize = 65536;
 const MOST_BYTES: u64 = 16_777_216;
-const PIECE: usize = 32768;
+/// Text is written once it has so many bytes.
+pub const PIECE: usize = 32768;
 
 /// Where files come from. The inner error is the fault of a file that is missing or too long.
 pub trait Files {
@@ -23,12 +25,19 @@ pub struct Folder;
 
 impl Files for Folder {
     fn fetch(&self, name: &str, most: u64) -> io::Result<Result<Vec<u8>, u64>> {
-        match fs::metadata(name) {
-            Ok(data) if data.len() > most => Ok(Err(2)),
-            Ok(_) => fs::read(name).map(Ok),
-            Err(error) if error.kind() == ErrorKind::NotFound => Ok(Err(1)),
-            Err(error) => Err(error),
+        let file = match File::open(&*path_of(name)) {
+            Ok(file) => file,
+            Err(error) if error.kind() == ErrorKind::NotFound => return Ok(Err(1)),
+            Err(error) => return Err(error),
+        };
+        let length = file.metadata()?.len();
+        if length > most {
+            return Ok(Err(2));
         }
+        let mut bytes = Vec::with_capacity(length as usize);
+        // A file by itself would be asked for its length once more.
+        file.take(most).read_to_end(&mut bytes)?;
+        Ok(Ok(bytes))
     }
 }
 
@@ -38,20 +47,42 @@ impl Files for HashMap<String, Vec<u8>> {
     }
 }
 
+/// A tile by the index within its level, or within its level of a subtree.
 #[derive(Clone, Copy)]
 pub struct Node {
-    index: u64,
-    coordinates: [u32; 3],
+    pub index: u64,
+    pub coordinates: [u32; 3],
 }
 
 impl Node {
-    const ROOT: Node = Node { index: 0, coordinates: [0; 3] };
+    pub const ROOT: Node = Node { index: 0, coordinates: [0; 3] };
 
-    fn children(self, scheme: Scheme) -> impl Iterator<Item = Node> {
+    /// The root of a subtree as the first node of it.
+    pub fn within(self) -> Node {
+        Node { index: 0, ..self }
+    }
+
+    pub fn children(self, scheme: Scheme) -> impl Iterator<Item = Node> {
         (0..scheme.nodes_at(1)).map(move |child| Node {
             index: self.index << scheme.axes() | child,
             coordinates: [0, 1, 2].map(|axis| 2 * self.coordinates[axis] + (child >> axis & 1) as u32),
         })
+    }
+}
+
+/// A tile of an answer, with a bit for each of its contents.
+#[derive(Clone, Copy)]
+pub struct Tile {
+    pub level: u8,
+    pub mask: u16,
+    pub coordinates: [u32; 3],
+}
+
+impl Tile {
+    /// The tile of a node of a subtree, at this place in its bitstreams.
+    pub fn new(level: u32, node: &Node, subtree: &Subtree, place: u64) -> Tile {
+        let mask = subtree.contents.iter().enumerate().map(|(content, bits)| u16::from(bits.get(place)) << content).sum();
+        Tile { level: level as u8, mask, coordinates: node.coordinates }
     }
 }
 
@@ -74,7 +105,7 @@ pub enum End {
 
 pub struct Scene<F> {
     files: F,
-    layout: Layout,
+    pub layout: Layout,
     subtree: Template,
     contents: Vec<Template>,
 }
@@ -102,7 +133,7 @@ impl<F: Files> Scene<F> {
         self.layout.scheme
     }
 
-    fn read(&self, level: u32, root: Node) -> io::Result<Result<Subtree, u64>> {
+    pub fn read(&self, level: u32, root: Node) -> io::Result<Outcome> {
         let mut name = String::new();
         self.subtree.fill(level, root.coordinates, &mut name);
         match self.files.fetch(&name, MOST_BYTES)? {
@@ -117,7 +148,7 @@ impl<F: Files> Scene<F> {
         for &root in roots {
             match self.read(level, root)? {
                 Ok(subtree) => {
-                    let nodes = if subtree.tiles.get(0) { vec![Node { index: 0, ..root }] } else { Vec::new() };
+                    let nodes = if subtree.tiles.get(0) { vec![root.within()] } else { Vec::new() };
                     all.push(Walked { root, subtree, nodes });
                 }
                 Err(number) => return Ok((all, Some(End::Fault { number, level, root }))),
@@ -126,9 +157,8 @@ impl<F: Files> Scene<F> {
         Ok((all, None))
     }
 
-    /// Gives each tile of the region in key order, and answers how the walk ends. A tile is given with its level, its node and a
-    /// bit for each of its contents.
-    pub fn walk(&self, region: &Region, mut give: impl FnMut(u32, [u32; 3], u8) -> io::Result<()>) -> io::Result<End> {
+    /// Gives each tile of the region in key order, and answers how the walk ends.
+    pub fn walk(&self, region: &Region, mut give: impl FnMut(Tile) -> io::Result<()>) -> io::Result<End> {
         let levels = self.layout.subtree_levels;
         let (mut level, mut found) = (0, 0);
         let mut roots = vec![Node::ROOT];
@@ -144,7 +174,7 @@ impl<F: Files> Scene<F> {
                         if found == MOST_TILES {
                             return Ok(End::TooMany);
                         }
-                        give(level + local, node.coordinates, mask(&walked.subtree, above + node.index))?;
+                        give(Tile::new(level + local, node, &walked.subtree, above + node.index))?;
                         found += 1;
                     }
                 }
@@ -160,38 +190,22 @@ impl<F: Files> Scene<F> {
 
     /// The same walk by a program that keeps no more than a few subtrees, those that were used last: a subtree is read again
     /// for each of its levels where it isn't kept any more.
-    pub fn walk_over(&self, frames: usize, region: &Region, mut give: impl FnMut(u32, [u32; 3], u8) -> io::Result<()>) -> io::Result<End> {
-        let levels = self.layout.subtree_levels;
-        let (mut level, mut found) = (0, 0);
+    pub fn walk_over(&self, frames: usize, region: &Region, mut give: impl FnMut(Tile) -> io::Result<()>) -> io::Result<End> {
         let mut kept = Vec::with_capacity(frames);
-        let (mut roots, mut nodes) = (vec![Node::ROOT], Vec::new());
-        while level <= region.level && level < self.layout.levels && !roots.is_empty() {
-            let mut below = Vec::new();
-            for local in 0..levels.min(region.level + 1 - level) {
-                let above = self.scheme().nodes_above(local);
-                for &root in &roots {
-                    let subtree = match self.hold(&mut kept, frames, level, root)? {
-                        Ok(subtree) => subtree,
-                        Err(number) => return Ok(End::Fault { number, level, root }),
-                    };
-                    nodes.clear();
-                    self.descend(region, level, subtree, Node { index: 0, ..root }, 0..local, &mut nodes);
-                    for node in &nodes {
-                        if found == MOST_TILES {
-                            return Ok(End::TooMany);
-                        }
-                        give(level + local, node.coordinates, mask(subtree, above + node.index))?;
-                        found += 1;
-                    }
-                    if local + 1 == levels && level + levels <= region.level {
-                        self.append_children(region, level + levels, root, subtree, &nodes, &mut below);
-                    }
-                }
+        let (mut steps, mut tiles) = (Steps::new(*region), Vec::new());
+        loop {
+            if let Some(end) = steps.end() {
+                return Ok(end);
             }
-            level += levels;
-            roots = below;
+            let (level, root) = steps.root();
+            match self.hold(&mut kept, frames, level, root)? {
+                Ok(subtree) => steps.step(self, subtree, &mut tiles),
+                Err(number) => return Ok(End::Fault { number, level, root }),
+            }
+            for tile in tiles.drain(..) {
+                give(tile)?;
+            }
         }
-        Ok(End::Complete)
     }
 
     // The subtree of a root, which becomes the last one that is kept.
@@ -211,8 +225,8 @@ impl<F: Files> Scene<F> {
         Ok(Ok(&kept.last().unwrap().2))
     }
 
-    // The tiles of a local level that are in the region, from a node of a local level above it.
-    fn descend(&self, region: &Region, level: u32, subtree: &Subtree, node: Node, locals: Range<u32>, nodes: &mut Vec<Node>) {
+    /// The tiles of a local level that are in the region, from a node of a local level above it.
+    pub fn descend(&self, region: &Region, level: u32, subtree: &Subtree, node: Node, locals: Range<u32>, nodes: &mut Vec<Node>) {
         let local = locals.start;
         if !subtree.tiles.get(self.scheme().nodes_above(local) + node.index) || !region.meets(level + local, node.coordinates) {
             return;
@@ -241,7 +255,8 @@ impl<F: Files> Scene<F> {
         roots
     }
 
-    fn append_children(&self, region: &Region, level: u32, root: Node, subtree: &Subtree, nodes: &[Node], roots: &mut Vec<Node>) {
+    /// The roots of the child subtrees that stand below some nodes of a subtree's last level, and are in the region.
+    pub fn append_children(&self, region: &Region, level: u32, root: Node, subtree: &Subtree, nodes: &[Node], roots: &mut Vec<Node>) {
         let depth = self.scheme().axes() * self.layout.subtree_levels;
         let children = nodes.iter().flat_map(|node| node.children(self.scheme()));
         let found = children.filter(|child| subtree.child.get(child.index) && region.meets(level, child.coordinates));
@@ -253,8 +268,8 @@ impl<F: Files> Scene<F> {
         let mut stdout = io::stdout().lock();
         let mut text = String::with_capacity(2 * PIECE);
         let mut found = 0;
-        let give = |level, coordinates, mask| {
-            self.append_line(level, coordinates, mask, &mut text);
+        let give = |tile| {
+            self.append_line(&tile, &mut text);
             found += 1;
             if text.len() >= PIECE {
                 stdout.write_all(text.as_bytes())?;
@@ -266,28 +281,33 @@ impl<F: Files> Scene<F> {
             None => self.walk(region, give)?,
             Some(frames) => self.walk_over(frames, region, give)?,
         };
+        self.append_end(end, found, &mut text);
+        stdout.write_all(text.as_bytes())
+    }
+
+    pub fn append_line(&self, tile: &Tile, text: &mut String) {
+        let mut buffer = itoa::Buffer::new();
+        text.push_str(buffer.format(tile.level));
+        for coordinate in &tile.coordinates[..self.scheme().axes() as usize] {
+            text.push('\t');
+            text.push_str(buffer.format(*coordinate));
+        }
+        for (place, template) in self.contents.iter().enumerate() {
+            if tile.mask >> place & 1 == 1 {
+                text.push('\t');
+                template.fill(tile.level.into(), tile.coordinates, text);
+            }
+        }
+        text.push('\n');
+    }
+
+    /// The last line of an answer of so many tiles.
+    pub fn append_end(&self, end: End, found: usize, text: &mut String) {
         text.push_str(&match end {
             End::Complete => format!("end\tcomplete\t{found}\n"),
             End::TooMany => format!("end\ttoo-many\t{found}\n"),
             End::Fault { number, level, root } => format!("end\tfault\t{found}\t{number}\t{level}{}\n", self.listed(root)),
         });
-        stdout.write_all(text.as_bytes())
-    }
-
-    fn append_line(&self, level: u32, coordinates: [u32; 3], mask: u8, text: &mut String) {
-        let mut buffer = itoa::Buffer::new();
-        text.push_str(buffer.format(level));
-        for coordinate in &coordinates[..self.scheme().axes() as usize] {
-            text.push('\t');
-            text.push_str(buffer.format(*coordinate));
-        }
-        for (place, template) in self.contents.iter().enumerate() {
-            if mask >> place & 1 == 1 {
-                text.push('\t');
-                template.fill(level, coordinates, text);
-            }
-        }
-        text.push('\n');
     }
 
     fn listed(&self, root: Node) -> String {
@@ -336,9 +356,4 @@ impl<F: Files> Scene<F> {
             from = child + 1;
         }
     }
-}
-
-// A bit for each content of a node.
-fn mask(subtree: &Subtree, place: u64) -> u8 {
-    subtree.contents.iter().enumerate().map(|(content, bits)| u8::from(bits.get(place)) << content).sum()
 }

@@ -14,13 +14,14 @@ ghost use Rattle.batch_run.specs.Desks.{IsReady};
 use crate::desk::Desk;
 use crate::gate::Gate;
 use crate::viewing::{Pass, Viewing};
-use crate::work::work;
+use crate::work::{read_line, work};
 use batch_blocks::{Reply, append_reply, worker_of};
 use scene_ports::{FileSource, GiveFault, Outlet, give_rest};
 use std::alloc::Global;
 use std::sync::Wait;
 use std::thread;
 use std::thread::Threads;
+use tileset_json::Layout;
 
 /// Answers the lines of a round (up to 64), and writes their blocks. `first` is the number of the first of them in
 /// the input. After an `Err` some front of the blocks was given.
@@ -61,8 +62,8 @@ pub(crate) fn run_round<
     write_blocks(alloc, scene, lines, desks, out)
 }
 
-// Answers the lines of a round, each at the desk of its worker. Each worker has a thread; where no thread can be
-// started the work is done in turn.
+// Answers the lines of a round, each at the desk of its worker. There are as many threads as workers, unless fewer lines
+// have a plan; where no thread can be started the work is done in turn.
 fn answer_lines<
     R: Threads + Wait + Sync,
     S: FileSource + Send,
@@ -91,11 +92,20 @@ fn answer_lines<
     thread::for_each_mut(
         rt,
         desks,
-        workers,
+        threads_for(scene.layout(), lines, workers),
         &|worker, desk: &mut Desk<S, P, W>| {
             work(rt, alloc, scene, gate, workers, first, lines, worker, desk)
         },
     );
+}
+
+// How many threads are worth their start: one for each line that has a plan, but no more than workers. Refused lines need
+// none.
+fn threads_for(layout: &Layout, lines: &[&[u8]], workers: usize) -> usize
+    ensures { 0 < result }
+{
+    let with_plans = lines.iter().filter(|line| read_line(layout, line).is_ok());
+    with_plans.take(workers).count().max(1)
 }
 
 // Writes the blocks of the replies at the desks, in the order of their lines. After an `Err` some front of them was

@@ -130,8 +130,8 @@ fn answer_line<R: Wait, S: FileSource, P: Pass<W>, W, V: Viewing<P, W, S>>(
     }
 }
 
-// The plan of a line over a layout, or the number of the first rule that refuses it.
-fn read_line(layout: &Layout, line: &[u8]) -> Result<Plan, u64>
+/// The plan of a line over a layout, or the number of the first rule that refuses it.
+pub(crate) fn read_line(layout: &Layout, line: &[u8]) -> Result<Plan, u64>
     ensures read { result ≡ plan_in layout.now line.now }
     ensures fits { IfOk result (FitsLayout layout.now) }
     ensures within { IsWithinLimits layout.now }

@@ -119,7 +119,8 @@ batch_within [] w same = cc
 batch_within (a ∷ []) w same = cc
 batch_within (a ∷ b ∷ []) w same =
     bound (λ n. option_map (λ f. batch n f) (number_to most_frames b)) (number_to most_seats a) w
-    (λ n few is. mapped (λ f. batch n f) (number_to most_frames b) w (λ f. tt) is) same
+    (λ n seats is. bounded (λ f. batch n f) (number_to most_frames b) w
+    (λ f few. ((within most_seats n a seats).0, (within most_seats n a seats).1, (within most_frames f b few).0, (within most_frames f b few).1)) is) same
 batch_within (a ∷ b ∷ c ∷ more) w same = cc
 
 serve_within : (words : List (List ℕ)) (w : Wish) → serve_asked words ≡ Some w → HasNumbers w
@@ -128,8 +129,16 @@ serve_within (a ∷ []) w same = cc
 serve_within (a ∷ b ∷ []) w same = cc
 serve_within (a ∷ b ∷ c ∷ []) w same =
     bound (λ p. option_and_then (λ v. option_map (λ f. serve p v f) (number_to most_frames c)) (number_to most_seats b)) (number_to last_port a) w
-    (λ p low is. bound (λ v. option_map (λ f. serve p v f) (number_to most_frames c)) (number_to most_seats b) w
-    (λ v few js. mapped (λ f. serve p v f) (number_to most_frames c) w (λ f. tt) js) is) same
+    (λ p port is. bound (λ v. option_map (λ f. serve p v f) (number_to most_frames c)) (number_to most_seats b) w
+    (λ v seats js. bounded (λ f. serve p v f) (number_to most_frames c) w
+    (λ f few. (
+      (within last_port p a port).0,
+      (within last_port p a port).1,
+      (within most_seats v b seats).0,
+      (within most_seats v b seats).1,
+      (within most_frames f c few).0,
+      (within most_frames f c few).1,
+    )) js) is) same
 serve_within (a ∷ b ∷ c ∷ d ∷ more) w same = cc
 
 check_within : (words : List (List ℕ)) (w : Wish) → check_asked words ≡ Some w → HasNumbers w

@@ -12,7 +12,8 @@ use Rattle.commands.specs.declared.program.Asked.{Asked}
 use Rattle.commands.specs.declared.program.Asked.TheVariants.{Tiles, Check, Make, Survey, Replay, Batch, Serve}
 use Rattle.commands.specs.declared.words.WordFault.{WordFault}
 use Rattle.commands.specs.declared.words.WordFault.TheVariants as fault
-use Rattle.commands.specs.Words.{recipe_of_words, without_dashes, most_seats, seats_of_word, frames_of_word, port_of_word}
+use Rattle.commands.specs.Words.{recipe_of_words, without_dashes, most_seats, last_port, seats_of_word, frames_of_word}
+use Rattle.commands.specs.Words.{port_of_word}
 use Rattle.commands.specs.Promise.{Promise, LeavesAll, NeedsNoFile, PlaysNothing}
 use Rattle.commands.specs.Tiles.{tiles_promise}
 use Rattle.commands.specs.Check.{check_promise}
@@ -89,9 +90,12 @@ asked (name ∷ words) =
     else (if bytes_eq name (codes "batch") then batch_asked (without_dashes words)
     else (if bytes_eq name (codes "serve") then serve_asked (without_dashes words) else None))))))
 
--- the numbers of a script are within their limits
+-- the numbers of a script, of a batch and of a serving are within their limits
 abbrev pub HasNumbers : Wish → Type 0
 HasNumbers (replay frames passes) = (1 ≤ frames) × (frames ≤ most_frames) × (1 ≤ passes) × (passes ≤ most_seats)
+HasNumbers (batch workers frames) = (1 ≤ workers) × (workers ≤ most_seats) × (1 ≤ frames) × (frames ≤ most_frames)
+HasNumbers (serve port viewers frames) = (1 ≤ port) × (port ≤ last_port) × (1 ≤ viewers) × (viewers ≤ most_seats)
+    × (1 ≤ frames) × (frames ≤ most_frames)
 HasNumbers wish = Unit {0}
 
 -- ---- what is promised

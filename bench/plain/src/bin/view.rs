@@ -3,8 +3,12 @@
 use plain::make::Recipe;
 use plain::tree::Region;
 use plain::walk::{End, Folder, Scene};
+use plain::{batch, replay};
 use std::collections::HashMap;
+use std::io::Read;
 use std::{env, fs, io};
+
+const MOST_INPUT: u64 = 1_048_576;
 
 fn corner(word: &str) -> [u32; 3] {
     let mut corner = [0; 3];
@@ -37,14 +41,25 @@ fn survey(recipe: &Recipe) -> io::Result<()> {
     let mut hi = [last; 3];
     hi[scene.scheme().axes() as usize..].fill(0);
     let (mut listed, mut contents) = (0, 0);
-    let end = scene.walk(&Region { level: recipe.levels - 1, lo: [0; 3], hi }, |_, _, mask| {
+    let end = scene.walk(&Region { level: recipe.levels - 1, lo: [0; 3], hi }, |tile| {
         listed += 1;
-        contents += mask.count_ones();
+        contents += tile.mask.count_ones();
         Ok(())
     })?;
     let state = if let End::TooMany = end { "too-many" } else { "complete" };
     println!("survey\t{files}\t{tiles}\t{listed}\t{contents}\t{state}");
     Ok(())
+}
+
+fn input() -> io::Result<Vec<u8>> {
+    let mut input = Vec::new();
+    io::stdin().lock().take(MOST_INPUT + 1).read_to_end(&mut input)?;
+    assert!(input.len() as u64 <= MOST_INPUT, "the input is too long");
+    Ok(input)
+}
+
+fn number(word: &str) -> usize {
+    word.parse().expect("a number")
 }
 
 fn main() -> io::Result<()> {
@@ -55,6 +70,8 @@ fn main() -> io::Result<()> {
         ["check"] => Scene::open(Folder)?.check(),
         ["make", recipe @ ..] => make(&Recipe::read(recipe).expect("a recipe")),
         ["survey", recipe @ ..] => survey(&Recipe::read(recipe).expect("a recipe")),
+        ["replay", frames, passes] => replay::replay(&Scene::open(Folder)?, number(frames), number(passes), &input()?, io::stdout().lock()),
+        ["batch", workers, frames] => batch::batch(&Scene::open(Folder)?, number(workers), number(frames), &input()?, io::stdout().lock()),
         _ => panic!("no such command"),
     }
 }

@@ -1,0 +1,5 @@
+mod Passes
+mod Firsts
+mod Given
+mod Ends
+mod Asking
