@@ -3,4 +3,6 @@
 #![tactic(auto)]
 
 #[cfg(test)]
+mod sockets;
+#[cfg(test)]
 mod talks;
