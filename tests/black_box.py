@@ -10,6 +10,7 @@ if not 2 <= len(sys.argv) <= 3:
 
 import batching
 import buffers
+import drawing
 import edges
 import examples
 import extremes
@@ -30,6 +31,7 @@ examples.cases()
 extremes.cases()
 serving.cases()
 many.cases()
+drawing.cases()
 passed, failed = harness.counts["passed"], harness.counts["failed"]
 print(f"black box: {passed} passed, {failed} failed" + (f", of the cases with {harness.WORD!r}" if harness.WORD else ""))
 sys.exit(1 if failed or not passed else 0)

@@ -12,7 +12,7 @@ TOP = os.path.dirname(os.path.dirname(os.path.abspath(__file__)))
 MOST, MOST_OF_SLOW = 8, 5
 # The crates of which a check from nothing takes more than twenty processor seconds.
 SLOW = set("""availability batch_run bitstream commands frame_pool framed_walk http_connection http_front
-    http_text implicit_tileset plan_registry published_prefix reference_walk region_cursor region_scan
+    http_listener http_text implicit_tileset plan_registry published_prefix reference_walk region_cursor region_scan
     replay_core replay_script request_text scene_frames scene_ports scene_viewers shared_pool subtree_file subtree_json
     subtree_outcome subtree_write tile_builder tile_coords tile_occupancy tile_walk tileset_json tileset_make
     tileset_write turn_lock uri_template view viewer_session walk_course""".split())

@@ -16,6 +16,7 @@ if not 2 <= len(sys.argv) <= 3:
 import harness
 from harness import MESSAGES, PROGRAM, case, files_in, lines, report, write_files
 from making import WORKED, WORKED_FILES
+from replaying import SHARED
 from tilesets import A_JSON, A_WHOLE, all_ones, pack, tileset, tileset_a, tileset_b, tileset_c, tileset_d, with_tile_bits
 
 # FIRST and LAST are the numbers of the first and the last allocation that is refused, counted from 1, and COUNTED the file that
@@ -26,6 +27,7 @@ REFUSING = r"""
 #include <stddef.h>
 #include <stdio.h>
 #include <stdlib.h>
+#include <sys/syscall.h>
 #include <unistd.h>
 
 void *__libc_malloc(size_t);
@@ -41,12 +43,15 @@ __attribute__((constructor)) static void begin(void) {
     asked = 0;
 }
 
-__attribute__((destructor)) static void end(void) {
+// Tells how many were asked for, and ends. The program calls this itself, so that no destructor runs.
+__attribute__((noreturn)) void _exit(int status) {
     char text[32];
     int length = snprintf(text, sizeof text, "%lu", asked);
     int file = open(getenv("COUNTED"), O_WRONLY | O_CREAT | O_TRUNC, 0600);
     if (file < 0 || write(file, text, length) != length)
-        _exit(99);
+        status = 99;
+    for (;;)
+        syscall(SYS_exit_group, status);
 }
 
 static int is_refused(void) {
@@ -84,11 +89,12 @@ def build():
     return subprocess.run(["cc", "-O1", "-fno-builtin", "-shared", "-fPIC", "-o", LIBRARY, source]).returncode
 
 
-def refusing(words, folder, first, last):
-    """Runs the program with these allocations refused: its status, its line on standard error, its text, and how many it asked for."""
+def refusing(words, folder, given, first, last):
+    """Runs the program on this input with these allocations refused: its status, its line on standard error, its text, and how many
+    it asked for."""
     if os.path.exists(COUNTED):
         os.remove(COUNTED)
-    done = subprocess.run([PROGRAM] + words, cwd=folder, stdin=subprocess.DEVNULL, capture_output=True, timeout=60,
+    done = subprocess.run([PROGRAM] + words, cwd=folder, input=given, capture_output=True, timeout=60,
                           env={"LD_PRELOAD": LIBRARY, "FIRST": str(first), "LAST": str(last), "COUNTED": COUNTED})
     asked = 0
     if os.path.exists(COUNTED):
@@ -105,8 +111,9 @@ def is_front(there, puts, found, text):
 
 
 @case
-def refused(name, files, words, wanted, status=0, message=None, puts=None):
-    """Runs the program with none, and then with each of its allocations refused. `puts` are the files that it makes, in order."""
+def refused(name, files, words, wanted, status=0, message=None, puts=None, given=b""):
+    """Runs the program with none, and then with each of its allocations refused. `puts` are the files that it makes, in order, and
+    `given` is its input."""
     problems, runs = [], 0
     folder = os.path.join(WORK, "in")
 
@@ -118,7 +125,7 @@ def refused(name, files, words, wanted, status=0, message=None, puts=None):
         os.mkdir(folder)
         write_files(folder, files)
         try:
-            *found, text, asked = refusing(words, folder, first, last)
+            *found, text, asked = refusing(words, folder, given, first, last)
         except subprocess.TimeoutExpired:
             problems.append(f"{first} to {last} refused: no end")
             return 0
@@ -170,6 +177,16 @@ def cases():
     refused("make_of_four_files", {}, ["make", *WORKED], lines("made|4|4"), puts=WORKED_FILES)
     refused("make_beside_another_file", {"other": b"stays"}, ["make", "--", *WORKED], lines("made|4|4"), puts=WORKED_FILES)
     refused("no_recipe", {}, ["make", *WORKED[:5]], "", 2, puts={})
+    script = "".join(row[0] + "\n" for row in SHARED).encode()
+    refused("replay_of_two_passes", tileset_b(2, 3), ["replay", "1", "2"], lines(*(line for row in SHARED for line in row[1:])),
+            given=script)
+    boxes = b"2 0,0 3,3\n1 0,0 1,1\nx\n2 0,0 3,3\n2 1,1 1,1\n"
+    rows = [*all_ones(2, 2, (0, 0), (3, 3)), "end|complete|21"]
+    refused("batch_of_a_worker", tileset_b(2, 3), ["batch", "1", "1"],
+            lines(*rows, *all_ones(2, 1, (0, 0), (1, 1)), "end|complete|5", "refused|1", *rows, *all_ones(2, 2, (1, 1), (1, 1)),
+                  "end|complete|3"), given=boxes)
+    refused("batch_of_a_faulty_tileset", tileset_c(s_1_0_1=b"\0\0\0"), ["batch", "1", "4"],
+            lines("0|0|0", "1|0|0", "1|1|0", "end|fault|3|3|1|0|1"), given=b"1 0,0 1,1\n")
     refused("survey_of_four_files", {}, ["survey", *WORKED], lines("survey|4|4|4|4|complete"), puts={})
 
 

@@ -3,4 +3,10 @@
 #![tactic(auto)]
 
 #[cfg(test)]
+mod links;
+#[cfg(test)]
+mod scenes;
+#[cfg(test)]
+mod sockets;
+#[cfg(test)]
 mod talks;

@@ -65,9 +65,22 @@ fn talk(alloc: Global, bytes: &[u8], piece: usize, failing: u64) -> Result<(Serv
     let mut viewers = Echo {
         text: String::new(alloc),
     };
+    talk_with(alloc, &mut viewers, bytes, piece, failing)
+}
+
+// The same by these viewers.
+pub(crate) fn talk_with<V: Viewers>(
+    alloc: Global,
+    viewers: &mut V,
+    bytes: &[u8],
+    piece: usize,
+    failing: u64,
+) -> Result<(Served, String), Fail>
+    requires { 1 ≤ piece }
+{
     let bytes = Vec::from_slice(alloc, bytes)?;
     let mut link = MemoryLink::new(alloc, bytes, piece, vec![in alloc; failing]?);
-    let served = serve_connection(alloc, &mut viewers, &mut link);
+    let served = serve_connection(alloc, viewers, &mut link);
     let written = String::from_utf8_lossy(alloc, link.written())?;
     Ok((served, written))
 }

@@ -1,9 +1,9 @@
 // What makes the walks of a scene.
 ghost use Rattle.std.specs.Prelude.{◌≡◌, IfOk};
-ghost use Rattle.implicit_tiling.specs.Answer.{most_tiles};
 ghost use Rattle.walk_laws.specs.Plans.{FitsLayout};
 ghost use Rattle.published_prefix.specs.Seats.{newcomer};
 ghost use Rattle.walk_course.specs.Scenes.{tag_of};
+ghost use Rattle.walk_course.specs.Spread.{most_words};
 
 use contract_tokens::{Tells, Told};
 use plan_registry::Starts;
@@ -45,7 +45,7 @@ fn begin_in<J: Tells<WalkTag>>(
     requires told { J.told ≡ tag_of scene.now.value plan }
     requires layout { scene.now.value.layout ≡ layout.now }
     requires fits { FitsLayout layout.now plan }
-    ensures { IfOk result (λ r. r.1 ≡ newcomer r.0 (tag_of scene.now.value plan) most_tiles) }
+    ensures { IfOk result (λ r. r.1 ≡ newcomer r.0 (tag_of scene.now.value plan) (most_words plan.region)) }
 {
     let _ = scene;
     begin::<J>(alloc, layout, plan)

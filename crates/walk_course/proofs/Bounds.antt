@@ -4,16 +4,21 @@ use Rattle.std.specs.Prelude.{nat_lt, ◌==◌, ◌&&◌, not}
 use Rattle.std.proofs.lemmas.Bool.{ltb-false, eqb-true}
 use Rattle.std.proofs.lemmas.List.{length-take}
 use Rattle.implicit_tiling.specs.Answer.{most_tiles}
+use Rattle.implicit_tiling.specs.Region.{Region}
+use Rattle.implicit_tiling.specs.Scene.{Layout}
 use Rattle.implicit_tiling.specs.Subtree.{Subtree}
 use Rattle.implicit_tiling.specs.Nodes.{level_words, child_words}
 use Rattle.tile_coords.specs.declared.walk_end.WalkEnd.{WalkEnd}
+use Rattle.tile_coords.specs.declared.walk_end.WalkEnd.TheVariants.{Partial}
 use Rattle.subtree_outcome.specs.declared.outcome.Outcome.{Outcome}
 use Rattle.subtree_outcome.specs.declared.outcome.Outcome.TheVariants.{Good, Bad}
-use Rattle.region_cursor.specs.Cursor.{Cursor, Fits, cursor_key, local_level_of, is_last_local}
-use Rattle.region_cursor.specs.Moves.{over, level_after, pair_after, moved_on, end_by_key, room, children_if, counted, with_children, made_by, made}
+use Rattle.region_cursor.specs.Cursor.{Cursor, Fits, IsRootKey, cursor_key, local_level_of, is_last_local}
+use Rattle.region_cursor.specs.Moves.{begun, over, level_after, pair_after, moved_on, end_by_key, room, children_if, counted, with_children, made_by, made}
 use Rattle.region_cursor.proofs.Joined.{leaves_after}
 use Rattle.walk_course.specs.Walk.{Walk, GoesOn, IsPaused, most_roots}
+use Rattle.walk_course.specs.Spread.{IsSpread, IsLimited}
 use Rattle.walk_course.proofs.Children.{few_children}
+use Rattle.walk_course.proofs.Spread.{spread_made, spread_begun}
 
 -- the end tells whether there is a next key
 by_key : (key : Option ℕ) → GoesOn (end_by_key key) key
@@ -77,9 +82,9 @@ few_made c (Bad number) few count some fits = few_over c
 
 -- one step more
 pub stays_within : (w : Walk) (found : Outcome) (words : List ℕ) (end : WalkEnd) (after : Cursor) (key : ℕ) → IsPaused w → 1 ≤ w.state.subtree_levels → w.state.count ≤ most_tiles
-    → cursor_key w.state ≡ Some key → Fits w.state found → words ≡ (made w.state found).words → end ≡ (made w.state found).end → after ≡ (made w.state found).after
+    → cursor_key w.state ≡ Some key → IsRootKey w.state key → IsLimited found → Fits w.state found → words ≡ (made w.state found).words → end ≡ (made w.state found).end → after ≡ (made w.state found).after
     → IsPaused (record { state = after; steps = w.steps + 1; end = end })
-stays_within w found words end after key is some few_given at fits words_are end_is after_is =
+stays_within w found words end after key is some few_given at root limited fits words_are end_is after_is =
     let few = few_made w.state found (record { roots = is.few_roots; below = is.few_below }) few_given some fits in
     let here : HasFew after = subst HasFew (sym after_is) few in
     let going : GoesOn end (cursor_key after) =
@@ -92,4 +97,16 @@ stays_within w found words end after key is some few_given at fits words_are end
       few_roots = here.roots;
       few_below = here.below;
       few_steps = omega (arith, is.few_steps, lower);
+      spread = subst IsSpread (sym after_is) (spread_made w.state found key is.spread at root fits limited);
     }
+
+-- before the first step
+pub begins_within : (layout : Layout) (region : Region) → region.level ≤ 31 → IsPaused (record { state = begun layout region; steps = 0; end = Partial })
+begins_within layout region low = record {
+  goes_on = refl;
+  within = omega arith;
+  few_roots = omega arith;
+  few_below = omega arith;
+  few_steps = omega (arith, low);
+  spread = spread_begun layout region;
+}

@@ -1,3 +1,5 @@
+pub mod Counting
+pub mod Spread
 pub mod Children
 pub mod Bounds
 pub mod Steps

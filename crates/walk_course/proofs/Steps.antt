@@ -33,6 +33,8 @@ use Rattle.region_cursor.specs.Moves.{moved_on, end_by_key, room, made_by, made}
 use Rattle.region_cursor.specs.Walked.{IsAt, IsNextKey, GivesStep}
 use Rattle.region_cursor.proofs.Callers.{walk_stays, next_root_of_key, outcome_fits, words_of_the_layout, key_is}
 use Rattle.region_cursor.proofs.Joined.{leaves_after}
+use Rattle.walk_course.specs.Spread.{places, IsLimited}
+use Rattle.walk_course.proofs.Counting.{few_in}
 use Rattle.walk_course.specs.Walk.{Walk, GoesOn, IsPaused, IsReadFor}
 use Rattle.walk_course.specs.Course.{IsAnswerWord, IsAfter, IsHead, Fits, IsNextRoot, IsToldFor, MakesStep}
 use Rattle.walk_course.specs.declared.tag.WalkTag.{WalkTag}
@@ -226,6 +228,8 @@ made_with_key tag k n w found words end after key stepped paused at root within 
       head = record {
         few_steps = omega (arith, paused.few_steps, fits.steps_are);
         few_words = omega (arith, stepped.few, fits.count_is);
+        in_region = subst (λ (r : Region). n + length words ≤ places r) (stepped.same.same_region ∙ fits.of_plan.same_region)
+            (omega (arith, few_in after.region paused.spread.given paused.spread.once paused.spread.in_region, paused.spread.count, leaves.count, fits.count_is));
         of_layout = subst (λ (e : WalkEnd). EndsWithin tag.layout e) (sym stepped.end_is) end_of;
         at_first = λ none. absurd (omega (arith, none));
         of_steps = if_told tag.told next (λ all. IsAfter (scene_of all tag.layout) tag.region (k + 1) (n + length words) end) (λ all is. is.0.after) steps_told;
@@ -241,19 +245,19 @@ made_with_key tag k n w found words end after key stepped paused at root within 
 
 -- the walk after a step is within its bounds
 pub paused_after : (w : Walk) (found : Outcome) (words : List ℕ) (end : WalkEnd) (after : Cursor) (next : Option ℕ) → next ≡ cursor_key w.state → IfSome next (IsRootKey w.state) → IsPaused w
-    → w.end ≡ Partial → IsReadFor w found → Stepped w.state after found words end → IsPaused (record { state = after; steps = w.steps + 1; end = end })
-paused_after w found words end after next same root is going read stepped =
+    → w.end ≡ Partial → IsReadFor w found → IsLimited found → Stepped w.state after found words end → IsPaused (record { state = after; steps = w.steps + 1; end = end })
+paused_after w found words end after next same root is going read limited stepped =
     let some = has_key w is going in
     let key = with_key (cursor_key w.state) some in
     let fits = fits_step w found next same root some read in
     let levels : 1 ≤ w.state.subtree_levels = omega (arith, read.of_plan.some_levels, read.of_plan.same_subtree_levels) in
-    stays_within w found words end after key.0 is levels (omega (arith, stepped.few)) key.1 fits stepped.words_are stepped.end_is stepped.after_is
+    stays_within w found words end after key.0 is levels (omega (arith, stepped.few)) key.1 (root_of_key w.state key.0 next same key.1 root) limited fits stepped.words_are stepped.end_is stepped.after_is
 
 -- and it is one of its course
 pub makes_step : (w : Walk) (found : Outcome) (words : List ℕ) (end : WalkEnd) (after : Cursor) (next : Option ℕ) → next ≡ cursor_key w.state → IfSome next (IsRootKey w.state) → IsPaused w
-    → w.end ≡ Partial → IsReadFor w found → Stepped w.state after found words end → (tag : WalkTag) (k n : ℕ) → IsHead tag k n Partial → Fits tag k n Partial w → IsToldFor tag w found
+    → w.end ≡ Partial → IsReadFor w found → IsLimited found → Stepped w.state after found words end → (tag : WalkTag) (k n : ℕ) → IsHead tag k n Partial → Fits tag k n Partial w → IsToldFor tag w found
     → MakesStep tag k n words end (record { state = after; steps = w.steps + 1; end = end })
-makes_step w found words end after next same root is going read stepped tag k n head fits told =
+makes_step w found words end after next same root is going read limited stepped tag k n head fits told =
     let key = with_key (cursor_key w.state) (has_key w is going) in
-    made_with_key tag k n w found words end after key.0 stepped (paused_after w found words end after next same root is going read stepped) key.1
+    made_with_key tag k n w found words end after key.0 stepped (paused_after w found words end after next same root is going read limited stepped) key.1
     (root_of_key w.state key.0 next same key.1 root) is.within read head fits told

@@ -18,6 +18,7 @@ use Rattle.subtree_outcome.specs.Outcomes.{outcome_seen}
 use Rattle.subtree_outcome.specs.Found.{IsTileWord, EndsWithin}
 use Rattle.region_cursor.specs.Cursor.{IsWalkOf, next_root}
 use Rattle.region_cursor.specs.Walked.{IsAt, IsNextKey}
+use Rattle.walk_course.specs.Spread.{places}
 use Rattle.walk_course.specs.Walk.{Walk}
 use Rattle.walk_course.specs.declared.tag.WalkTag.{WalkTag}
 
@@ -41,6 +42,7 @@ pub record IsAfter (s : Scene) (region : Region) (made count : ℕ) (end : WalkE
 pub record IsHead (tag : WalkTag) (made count : ℕ) (end : WalkEnd) : Type 0 where
   pub few_steps : made < 2 ^ 45
   pub few_words : count ≤ most_tiles
+  pub in_region : count ≤ places tag.region
   pub of_layout : EndsWithin tag.layout end
   pub at_first : made ≡ 0 → (count ≡ 0) × (end ≡ Partial)
   pub of_steps : IfSome tag.told (λ all. IsAfter (scene_of all tag.layout) tag.region made count end)

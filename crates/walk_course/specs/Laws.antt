@@ -33,6 +33,7 @@ pub begins : (tag : WalkTag) → IsHead tag 0 0 Partial
 begins tag = record {
   few_steps = omega arith;
   few_words = omega arith;
+  in_region = omega arith;
   of_layout = tt;
   at_first = λ none. (refl, refl);
   of_steps = at_the_beginning tag.told tag.layout tag.region;

@@ -1,3 +1,4 @@
+pub mod Spread
 pub mod Walk
 pub mod Course
 pub mod Laws

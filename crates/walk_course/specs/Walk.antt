@@ -8,6 +8,7 @@ use Rattle.tile_coords.specs.declared.walk_end.WalkEnd.TheVariants.{Partial, Com
 use Rattle.subtree_outcome.specs.declared.outcome.Outcome.{Outcome}
 use Rattle.subtree_outcome.specs.Outcomes.{IsOutcomeAt}
 use Rattle.region_cursor.specs.Cursor.{Cursor, cursor_key, next_root, IsWalkOf}
+use Rattle.walk_course.specs.Spread.{IsSpread}
 
 pub record Walk : Type 0 where
   pub state : Cursor
@@ -40,6 +41,7 @@ pub record IsPaused (w : Walk) : Type 0 where
   pub few_roots : length w.state.roots ≤ most_roots
   pub few_below : length w.state.next_roots ≤ 8 * w.state.count
   pub few_steps : w.steps + to_go w.state ≤ most_steps
+  pub spread : IsSpread w.state
 
 -- what is read, of any source, of the file of the next root, for some layout and region that it is a walk of
 pub record IsReadFor (w : Walk) (found : Outcome) : Type 0 where

@@ -8,10 +8,12 @@ mod course;
 mod paused;
 mod planned;
 mod publish;
+mod room;
 mod tag;
 
 pub use course::PlanWalk;
 pub use paused::Paused;
 pub use planned::WalkScene;
 pub use publish::{begin, publish_next};
+pub use room::most_words;
 pub use tag::WalkTag;

@@ -4,6 +4,7 @@ ghost use Rattle.walk_laws.specs.Plans.{FitsLayout};
 ghost use Rattle.tile_coords.specs.declared.walk_end.WalkEnd.TheVariants.{Partial};
 ghost use Rattle.region_cursor.specs.Cursor.{cursor_key, IsRootKey};
 ghost use Rattle.walk_course.specs.Walk.{GoesOn, IsReadFor};
+ghost use Rattle.walk_course.specs.Spread.{IsLimited};
 ghost use Rattle.walk_course.specs.Course.{IsHead, Fits, IsToldFor, IsNextRoot, MakesStep};
 ghost use Rattle.walk_course.specs.declared.tag.WalkTag.{WalkTag};
 
@@ -69,12 +70,25 @@ impl Paused {
         ensures unchanged { IfErr result (λ e. self.new ≡ self.old) }
         ensures same_words { IfErr result (λ e. words.new.items ≡ words.old.items) }
     {
-        // What the next key is becomes known here, for the outcome that was read of it.
+        // What the next key is becomes known here, for the outcome that was read of it, and that it is within the limits.
         let _key = self.state.next_key();
+        is_limited(outcome);
         let end = self.state.step(outcome, words)?;
         self.steps += 1;
         self.end = same_end(&end);
         Ok(end)
+    }
+}
+
+// What is read is within the limits.
+fn is_limited(outcome: &Outcome)
+    ensures { IsLimited outcome.now }
+{
+    match outcome {
+        Outcome::Good(subtree) => {
+            let _ = &subtree.scheme;
+        }
+        Outcome::Bad(_) => {}
     }
 }
 

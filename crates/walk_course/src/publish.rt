@@ -6,24 +6,25 @@ ghost use Rattle.subtree_outcome.specs.Outcomes.{IsOutcomeOf};
 ghost use Rattle.published_prefix.specs.Heads.{head};
 ghost use Rattle.published_prefix.specs.Seats.{newcomer};
 ghost use Rattle.plan_registry.specs.Registries.{cursor_on};
-ghost use Rattle.implicit_tiling.specs.Answer.{most_tiles};
 ghost use Rattle.walk_laws.specs.Plans.{FitsLayout};
 ghost use Rattle.region_cursor.specs.Cursor.{cursor_key};
 ghost use Rattle.walk_course.specs.Course.{IsHead, Fits};
+ghost use Rattle.walk_course.specs.Spread.{most_words as most_words_of};
 
 use crate::course::PlanWalk;
 use crate::paused::{Paused, same_end};
+use crate::room::most_words;
 use crate::tag::WalkTag;
 use contract_tokens::Tells;
 use plan_registry::Cursor;
-use published_prefix::{MOST_WORDS, Prefix, PrefixSeat};
+use published_prefix::{Prefix, PrefixSeat};
 use std::alloc::{AllocError, Global};
 use subtree_outcome::Outcome;
 use tile_coords::{Plan, WalkEnd, Word};
 use tileset_json::Layout;
 
-/// The prefix of the walk of a plan that fits the layout, with room for each answer and no word yet, and its first
-/// seat. `J` tells the tag, which has this layout and region. Memory is the one error.
+/// The prefix of the walk of a plan that fits the layout, with room for each answer of its region and no word yet, and
+/// its first seat. `J` tells the tag, which has this layout and region. Memory is the one error.
 pub fn begin<J: Tells<WalkTag>>(
     alloc: Global,
     layout: &Layout,
@@ -31,10 +32,10 @@ pub fn begin<J: Tells<WalkTag>>(
 ) -> Result<(Prefix<PlanWalk>, PrefixSeat<PlanWalk>), AllocError>
     requires fits { FitsLayout layout.now plan }
     requires tag { (J.told.layout ≡ layout.now) × (J.told.region ≡ plan.region) }
-    ensures { IfOk result (λ begun. begun.1 ≡ newcomer begun.0 J.told most_tiles) }
+    ensures { IfOk result (λ begun. begun.1 ≡ newcomer begun.0 J.told (most_words_of plan.region)) }
 {
     let walk = Paused::start(alloc, layout, plan)?;
-    Prefix::<PlanWalk>::new::<J>(alloc, MOST_WORDS, walk)
+    Prefix::<PlanWalk>::new::<J>(alloc, most_words(&plan.region), walk)
 }
 
 /// Publishes the next step of the walk that the cursor has taken, from what was read of the file of its next root. The

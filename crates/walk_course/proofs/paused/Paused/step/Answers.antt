@@ -28,7 +28,7 @@ invariant_of-self-2 c =
       scene = c.in_ok-end.ensures.scene;
     } in
     subst (λ (e : WalkEnd). IsPaused (record { state = c.step.new.self; steps = w.steps + 1; end = e })) (sym c.same_end-self-inside.ensures)
-    (paused_after w c.args.outcome.now c.step.new.words.items c.in_ok-end.end c.step.new.self c.next_key-key.result c.next_key-key.ensures.key c.next_key-key.ensures.root c.self.invariant going read stepped)
+    (paused_after w c.args.outcome.now c.step.new.words.items c.in_ok-end.end c.step.new.self c.next_key-key.result c.next_key-key.ensures.key c.next_key-key.ensures.root c.self.invariant going read c.is_limited.ensures stepped)
 
 pub returns-clause-step : goal.returns-clause-step
 returns-clause-step c = λ tag k n head fits told.
@@ -45,5 +45,5 @@ returns-clause-step c = λ tag k n head fits told.
       scene = c.in_ok-end.ensures.scene;
     } in
     subst (λ (e : WalkEnd). MakesStep tag k n c.step.new.words.items c.in_ok-end.end (record { state = c.step.new.self; steps = w.steps + 1; end = e })) (sym c.same_end-self-inside.ensures)
-    (makes_step w c.args.outcome.now c.step.new.words.items c.in_ok-end.end c.step.new.self c.next_key-key.result c.next_key-key.ensures.key c.next_key-key.ensures.root c.self.invariant going read stepped
+    (makes_step w c.args.outcome.now c.step.new.words.items c.in_ok-end.end c.step.new.self c.next_key-key.result c.next_key-key.ensures.key c.next_key-key.ensures.root c.self.invariant going read c.is_limited.ensures stepped
     tag k n head (subst (λ (v : Walk). Fits tag k n Partial v) (sym c.self.view_is) fits) (subst (λ (v : Walk). IsToldFor tag v c.args.outcome.now) (sym c.self.view_is) told))
